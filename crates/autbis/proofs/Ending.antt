@@ -159,17 +159,17 @@ module _ {Out : Type 0} (asked : Request) (law : NotBoth asked.bounds) (output :
         (of_all other.before other.after got.second _ got.took got.exhausted.1.0
         (got.both, is.same, is.verdict, refl, refl))) is.written
 
--- Let the property P imply the property Q, and let P hold for the contents of an input. If the contract of the opener
--- (which opens files by name) states these contents, then Q holds for the contents that it states (`revealed`). If the
--- contract does not state them, then Q holds for some text.
+-- The contract of the opener, which opens files by name, may state the contents of an input (`revealed`). Suppose that
+-- the property P implies the property Q, and that P holds for the actual contents of the input. If the contract states
+-- these contents, then Q holds for the stated contents. If the contract states no contents, then Q holds for some text.
 of_told : (revealed text : Option (List ℕ)) {P Q : List ℕ → Type 0} → ((given : List ℕ) → P given → Q given) →
     IfSome revealed (λ bytes. text ≡ Some bytes) → OfText text P → OfText revealed Q
 of_told None text follows is (given, _, holds) = (given, tt, follows given holds)
 of_told (Some bytes) text follows is (given, same, holds) = (given, rw is at same, follows given holds)
 
 module _ (asked : Request) where
-  -- If `bytes` is the correct output for the actual contents of the inputs, then it is the correct output for the
-  -- contents that the contract of the opener (which opens files by name) states.
+  -- The contract of the opener, which opens files by name, may state the contents of the inputs. If `bytes` is the
+  -- correct output for the actual contents, then it is also the correct output for the stated contents.
   answer_told : (bytes : List ℕ) (status : ℕ) (revealed contents : Contents) → AreAsRevealed revealed contents →
       IsAnswer asked contents bytes status → IsAnswer asked revealed bytes status
   answer_told bytes status (one revealed) (one text) is answer = of_told revealed text (λ given h. h) is answer
@@ -178,8 +178,8 @@ module _ (asked : Request) where
   answer_told bytes status (one revealed) (two text other) is answer = absurd is
   answer_told bytes status (two revealed more) (one text) is answer = absurd is
 
-  -- If the line of `--stats` is correct for the actual contents of the inputs, then it is correct for the contents that
-  -- the contract of the opener (which opens files by name) states.
+  -- The contract of the opener, which opens files by name, may state the contents of the inputs. If the line of
+  -- `--stats` is correct for the actual contents, then it is also correct for the stated contents.
   pub shown_told : (old new : Option (List ℕ)) (revealed contents : Contents) → AreAsRevealed revealed contents →
       ShowsCountsOf asked contents old new → ShowsCountsOf asked revealed old new
   shown_told old new (one revealed) (one text) is shown = of_told revealed text (λ given h. h) is shown
@@ -187,8 +187,8 @@ module _ (asked : Request) where
   shown_told old new (one revealed) (two text other) is shown = absurd is
   shown_told old new (two revealed more) (one text) is shown = absurd is
 
-  -- If the actual contents of an input are incorrect, then the contents that the contract of the opener (which opens
-  -- files by name) states are incorrect.
+  -- The contract of the opener, which opens files by name, may state the contents of the inputs. If the actual contents
+  -- of an input are incorrect, then the stated contents are also incorrect.
   fault_told : (revealed contents : Contents) → AreAsRevealed revealed contents → HasFaultyText asked.bounds contents →
       HasFaultyText asked.bounds revealed
   fault_told (one revealed) (one text) is wrong = told_then revealed text _ is wrong
@@ -204,10 +204,10 @@ pub told_itself : (revealed : Option (List ℕ)) → IfSome revealed (λ bytes. 
 told_itself None = tt
 told_itself (Some bytes) = refl
 
--- The definition `EndsRun` lists the ways in which a run (a minimisation or a comparison) may end. Suppose that
--- `EndsRun` holds for the actual contents of the inputs. Then `EndsRun` also holds for the contents that the contract
--- of the opener (which opens files by name) states. In addition, the conditions `Sound` (no read has failed) and `Lost`
--- (a read has failed) may be replaced by weaker conditions.
+-- The definition `EndsRun` lists the ways in which a run (a minimisation or a comparison) may end. The contract of the
+-- opener, which opens files by name, may state the contents of the inputs. Suppose that `EndsRun` holds for the actual
+-- contents. Then `EndsRun` also holds for the stated contents. In addition, the conditions `Sound` (no read has failed)
+-- and `Lost` (a read has failed) may be replaced by weaker conditions.
 pub ends_told : {Out : Type 0} {asked : Request} {revealed contents : Contents} {Sound Lost Sound' Lost' : Type 0}
     {output : Used Out} {status : ℕ} → AreAsRevealed revealed contents →
     (Sound → Sound') → (Lost → Lost') → EndsRun asked contents Sound Lost output status →

@@ -22,9 +22,9 @@ opens_then : (old mid new : Option (List Name)) (first more : List Name) → Ope
 opens_then old mid new first more a b =
     IfSome_then old a (λ known is. rw is at b ∙ ap Some (append_assoc known first more))
 
--- `IsRefused` holds for a list of files if one of these files could not be opened. If `IsRefused` holds for the list
--- `first`, then it also holds for the longer list `first ++ more`, because the opener (which opens files by name) was
--- not asked for any later file.
+-- `IsRefused` holds for a list of files if the opener (which opens files by name) had to open these files in this
+-- order, could not open one of them, and was not asked for the files after it. If `IsRefused` holds for the list
+-- `first`, then it also holds for the longer list `first ++ more`.
 pub refused_then : {F : Type 0} {files : FilesUsed F} {first : List Name} (more : List Name) {status : ℕ} →
     IsRefused files first status → IsRefused files (first ++ more) status
 refused_then more is = record {

@@ -49,8 +49,8 @@ impl From<Memory> for CmpFault {
 /// list `h` by the internal action `i`. Then it compares the two systems modulo `rel`, and writes `TRUE` or `FALSE` and
 /// a line feed to the sink `w` (what the output is written to). Finally it calls `w.finish` once. The result of
 /// `run_cmp` is the verdict, which is true if the systems are equivalent. The meter `m` counts rounds and visits (reads
-/// of transitions), and must not have counted anything before. If both systems together have n states and m
-/// transitions, `run_cmp` makes at most n rounds and exactly (rounds + 1) * m visits.
+/// of transitions), and must not have counted anything before. If both systems together have n states and k
+/// transitions, `run_cmp` makes at most n rounds and exactly (rounds + 1) * k visits.
 ///
 /// # Errors
 ///

@@ -61,14 +61,15 @@ number_in_front bytes n v found leads =
 
 -- ---- Labels
 
--- Suppose that a bit mask has a set bit for each byte for which a test returns true. If the mask is not zero, then the
--- test returns true for some byte.
+-- Suppose that a bit mask has one bit for each byte of a list, and that this bit is set if and only if a test returns
+-- true for the byte. If the mask is not zero, then the test returns true for some byte.
 lane_passes : (p : ℕ → Bool) (xs : List ℕ) → 0 < mask_l (map p xs) → prefix_len (λ x. not (p x)) xs < length xs
 lane_passes p [] some = absurd (omega arith)
 lane_passes p (x ∷ xs) some = let h = lane_passes p xs in grind (arith, h)
 
--- Suppose that a bit mask has a set bit for each of sixteen bytes that equals `byte`. If the mask is not zero, then the
--- index of its lowest set bit is the index of a byte that equals `byte`.
+-- Suppose that a bit mask has one bit for each of sixteen bytes, and that this bit is set if and only if the byte
+-- equals `byte`. If the mask is not zero, then the index of its lowest set bit is the index of a byte that equals
+-- `byte`.
 pub byte_in_lanes : (bytes : List ℕ) (i byte mask : ℕ) → i + 16 ≤ length bytes
     → mask ≡ mask_l (map (λ x. eqb x byte) (chunk i 16 bytes)) → 0 < mask
     → (i + count_trailing_zeros 64 mask < length bytes) × (get_or bytes (i + count_trailing_zeros 64 mask) 0 ≡ byte)

@@ -52,14 +52,14 @@ abbrev pub Text : System → List ℕ → Type 0
 Text A text = (B : System) × IsInWrittenOrder A B × (text ≡ listed B)
 
 -- `GainsText A old new` holds if the text that is written for the system A was added to the bytes of the sink (what an
--- output is written to). If the contract of the sink does not state which bytes it contains, the definition does not
+-- output is written to). If the contract of the sink does not state the bytes of the sink, then `GainsText` does not
 -- restrict these bytes.
 abbrev pub GainsText : System → Option (List ℕ) → Option (List ℕ) → Type 0
 GainsText A old new = (text : List ℕ) × Text A text × Appends old new text
 
 -- `GainsPrefix A old new` holds if a prefix of the text that is written for the system A was added to the bytes of the
--- sink (what an output is written to). If the contract of the sink does not state which bytes it contains, the
--- definition does not restrict these bytes.
+-- sink (what an output is written to). If the contract of the sink does not state the bytes of the sink, then
+-- `GainsPrefix` does not restrict these bytes.
 abbrev pub GainsPrefix : System → Option (List ℕ) → Option (List ℕ) → Type 0
 GainsPrefix A old new = (front back : List ℕ) × Text A (front ++ back) × Appends old new front
 

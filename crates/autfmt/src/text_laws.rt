@@ -48,10 +48,11 @@ pub fn a_text_reads_or_has_a_fault()
 {}
 
 /// If the bytes that have been read so far determine an error (`JudgedFault`), then this error is the first error of
-/// the whole input, for all bytes that may follow. Suppose that these bytes, taken as a whole input, have an error.
-/// Then they determine this error in three cases. In the first case, the error is that a line is too long. In the
-/// second case, the error is that there is a line after the last transition that the header declares. In the third
-/// case, the bytes end with a line feed, and the error is not `MissingEdges` (transitions are missing).
+/// the whole input, for all bytes that may follow. Now suppose that an input consists of exactly these bytes, and that
+/// this input has an error. Then the bytes determine this error in three cases. In the first case, the error is that a
+/// line is too long. In the second case, the error is that there is a line after the last transition that the header
+/// declares. In the third case, the bytes end with a line feed, and the error is not `MissingEdges` (transitions are
+/// missing).
 pub fn a_judged_fault_is_the_first()
     ensures first { (bounds : Bounds) (given more : List ℕ) (f : Fault) →
         JudgedFault bounds given f → FirstFault bounds (given ++ more) f }
@@ -86,10 +87,10 @@ pub fn a_hide_list_reads_or_has_a_fault()
 {}
 
 /// If the bytes that have been read so far determine an error (`JudgedHideFault`), then this error is the first error
-/// of the whole hide list (the labels to hide), for all bytes that may follow. Suppose that these bytes, taken as a
-/// whole hide list, have an error. Then they determine this error in three cases. In the first case, the bytes end with
-/// a line feed. In the second case, the error is that a line is too long. In the third case, the error is that there
-/// are too many lines.
+/// of the whole hide list (the labels to hide), for all bytes that may follow. Now suppose that a hide list consists of
+/// exactly these bytes, and that this hide list has an error. Then the bytes determine this error in three cases. In
+/// the first case, the bytes end with a line feed. In the second case, the error is that a line is too long. In the
+/// third case, the error is that there are too many lines.
 pub fn a_judged_hide_fault_is_the_first()
     ensures first { (given more : List ℕ) (f : Fault) → JudgedHideFault given f →
         FirstHideFault (given ++ more) f }

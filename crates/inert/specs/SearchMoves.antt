@@ -1,7 +1,8 @@
 -- Defines the moves of the depth-first search along inert transitions, and the measures of its progress. In each move,
 -- the search processes a transition, or goes back from a state whose outgoing transitions were all read. A frame
 -- belongs to a state on the stack whose row (its outgoing transitions) is being read. The stack is divided into
--- components, and the root of a component is its first state on the stack.
+-- components, which are sets of states that inert transitions connect in both directions. The root of a component is
+-- its first state on the stack.
 use Rattle.std.specs.Prelude.{◌≡◌, ◌⊎◌, ◌↔◌, ℕ, ◌+◌, ◌*◌, ◌-◌, ◌<◌, ◌≤◌, List, [], ◌∷◌, ◌++◌, length, take, drop}
 use Rattle.std.specs.Prelude.{slice_index, slice_set, Bool, IsTrue}
 use Rattle.std.specs.List.{Contains}
@@ -17,10 +18,10 @@ use Rattle.inert.specs.Steps.{Under, remaining}
 use Rattle.inert.specs.declared.lens.Step.{Step}
 pub use Rattle.inert.specs.declared.lens.Step.TheVariants.{Inert, Shows}
 
--- Returns the search w after the state s was pushed on the stack as a component of its own. The items of this
--- component, which are pairs (label ID, block) and signature IDs, begin at the index `items`. The frame of s has the
--- transitions of s that are still to be read. They have the indices from `next` up to but excluding `end` in the list
--- of all transitions.
+-- A component is a set of states on the stack that inert transitions connect in both directions. Returns the search w
+-- after the state s was pushed on the stack as a component of its own. The items of this component, which are pairs
+-- (label ID, block) and signature IDs, begin at the index `items`. The frame of s has the transitions of s that are
+-- still to be read. They have the indices from `next` up to but excluding `end` in the list of all transitions.
 abbrev pub with_pushed : ℕ → ℕ → ℕ → ℕ → Search → Search
 with_pushed s next end items w = record w {
   stages = slice_set w.stages s (OnStack (length w.stack));
@@ -29,9 +30,10 @@ with_pushed s next end items w = record w {
   roots = w.roots ++ record { height = length w.stack; items = items } ∷ [];
 }
 
--- A root is the first state of a component on the stack. `CutsRoots` holds if the list `new` results from the list
--- `old` by dropping the roots above the index q of the stack. The list `new` is a prefix of `old`. The last root of
--- `new` has a height (an index on the stack) of at most q, and all roots that were dropped have a greater height.
+-- A component is a set of states on the stack that inert transitions connect in both directions, and its first state is
+-- its root. `CutsRoots` holds if the list `new` results from the list `old` by dropping the roots above the index q of
+-- the stack. The list `new` is a prefix of `old`. The last root of `new` has a height (an index on the stack) of at
+-- most q, and all roots that were dropped have a greater height.
 pub record CutsRoots (q : ℕ) (old new : List Root) : Type 0 where
   pub count : ℕ
   pub roots : new ≡ take count old
@@ -51,8 +53,9 @@ LeadsOn stages step =
 -- `HandlesStep` holds if the search goes from `old` to `new` when it processes the transition `step`. The flag `enters`
 -- must be true if and only if the search pushes a state. If the transition is not inert, the search collects its pair
 -- (label ID, target block). For an inert transition to the state t, there are three cases. If t is unvisited, t is
--- pushed. If t is on the stack, the component of t and all components above it are merged. If t is completed, the
--- search collects the ID of its cached signature.
+-- pushed. If t is on the stack, the component of t is merged with all components above it, where a component is a set
+-- of states that inert transitions connect in both directions. If t is completed, the search collects the ID of its
+-- cached signature.
 abbrev pub HandlesStep : List Triple → Step → Search → Search → Bool → Type 0
 HandlesStep places (Shows a b) old new enters = (new ≡ with_item (Pair a b) old) × ¬ IsTrue enters
 HandlesStep places (Inert t) old new enters =
@@ -92,10 +95,12 @@ pub record Finishes (stack : List ℕ) (f id : ℕ) (old new : List VisitState) 
   pub others : (s : ℕ) → (stage_at new s ≡ stage_at old s) ⊎ ((p : ℕ) × (f ≤ p) × (p < length stack)
       × (slice_index stack p ≡ s))
 
--- A component collects items: pairs (label ID, block) and signature IDs. `Closes` holds if the search goes from `old`
--- to `new` by completing the component at the top of the stack, whose first state is `root`. The signature with the ID
--- `id` has exactly the pairs that the items of the completed component represent. If the search came to this component
--- from another state, the component of that other state collects `id` as an item.
+-- A component is a set of states that inert transitions connect in both directions. To compute the common signature of
+-- these states, the search collects items for the component. Each item is a pair (label ID, block) or the ID of a
+-- signature whose pairs all belong to the common signature. `Closes` holds if the search goes from `old` to `new` by
+-- completing the component at the top of the stack, whose first state is `root`. The signature with the ID `id` has
+-- exactly the pairs that the items of the completed component represent. If the search came to this component from
+-- another state, the component of that other state collects `id` as an item.
 pub record Closes (root : Root) (before after : List (List (ℕ × ℕ))) (old new : Search) : Type 0 where
   pub id : ℕ
   pub listed : IsUnionOfItems (drop root.items old.items) before after id

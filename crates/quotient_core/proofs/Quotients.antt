@@ -1,8 +1,9 @@
--- The class number of a state is the quotient state that represents it. If the source and the target of a transition
--- are replaced by their class numbers, the result is a quotient transition, unless the quotient leaves it out. The
--- lemmas of this file prove that the quotient transitions of all reachable states are exactly the transitions of the
--- quotient. They also lead to the following theorem. If no transition of a state is left out, then each quotient
--- transition of another state with the same class number is also a quotient transition of this state.
+-- The class number of a state is the quotient state that represents it. Each transition of a state gives a quotient
+-- transition of this state: its source and its target are replaced by their class numbers. The transitions that the
+-- quotient leaves out are not counted as quotient transitions. The lemmas of this file prove that the quotient
+-- transitions of all reachable states are exactly the transitions of the quotient. They also lead to the following
+-- theorem. If no transition of a state is left out, then each quotient transition of another state with the same class
+-- number is also a quotient transition of this state.
 use Rattle.std.proofs.Common.{rules, ◌≡◌, ◌≢◌, ◌∙◌, ◌↔◌, ℕ, ◌<◌, ◌≤◌, true, not, Option, None, Some, List, length, map}
 use Rattle.std.proofs.Common.{get_or, Contains, IsPermutation, refl, sym, ap, subst, arith}
 use Rattle.std.specs.List.{AllPairs}
@@ -114,9 +115,11 @@ module _ {rel : Relation} {g : Grouped} {n : Numbering} {dropped : Option ℕ} (
   out_is s e c = left_out_is rel g.labels dropped is.lts.table is.drops _ (in_range s e c).label
 
   module _ (es : List Triple) (shown : HasShown rows (is_reached rows) es) (once : AllPairs (λ x y. x ≢ y) es) where
-    -- Let the list `es` have exactly the quotient transitions (transitions between quotient states) of all reachable
-    -- states. In each triple of `es`, the source and the target are less than the number of classes, and the label ID
-    -- is in the label table. Each triple comes from a step of a reachable state, and the quotient does not drop it.
+    -- If the source and the target of a transition are replaced by the quotient states that represent them, the result
+    -- is a quotient transition of the original source, unless the quotient leaves the result out. Let the list `es`
+    -- have exactly the quotient transitions of all reachable states. In each triple of `es`, the source and the target
+    -- are less than the number of classes, and the label ID is in the label table. Each triple comes from a step of a
+    -- reachable state, and the quotient does not drop it.
     each_is : (x : Triple) → Contains es x → IsTriple (length g.labels) count x
         × IsQuotientStep rel A (transition_of g.labels x) × ¬ IsDropped rel (transition_of g.labels x)
     each_is x c =
@@ -133,9 +136,11 @@ module _ {rel : Relation} {g : Grouped} {n : Numbering} {dropped : Option ℕ} (
           λ gone. both_ways _ from.stays ((out_is s e from.in_row).1 gone),
         )
 
-    -- Let the list `es` have exactly the quotient transitions (transitions between quotient states) of all reachable
-    -- states. Suppose that a transition e between quotient states comes from a step of a reachable state, and that the
-    -- quotient does not drop e. Then `es` has a triple for e.
+    -- If the source and the target of a transition are replaced by the quotient states that represent them, the result
+    -- is a quotient transition of the original source, unless the quotient leaves the result out. Let the list `es`
+    -- have exactly the quotient transitions of all reachable states. Suppose that a transition e between quotient
+    -- states comes from a step of a reachable state, and that the quotient does not drop e. Then `es` has a triple for
+    -- e.
     all_are : (e : Transition) → IsQuotientStep rel A e → ¬ IsDropped rel e
         → Contains (map (transition_of g.labels) es) e
     all_are e (s, t, way, step, hs, ht) stays =
@@ -164,9 +169,10 @@ module _ {rel : Relation} {g : Grouped} {n : Numbering} {dropped : Option ℕ} (
       once = transitions_differ g.labels es is.lts.table (λ x c. (each_is x c).0.label) once;
     }
 
-    -- Let the list `es` have exactly the quotient transitions (transitions between quotient states) of all reachable
-    -- states. If the length of `es` is at most the number of transitions of the given system, then `es` satisfies the
-    -- limits on the size of a system (`InRange`).
+    -- If the source and the target of a transition are replaced by the quotient states that represent them, the result
+    -- is a quotient transition of the original source, unless the quotient leaves the result out. Let the list `es`
+    -- have exactly the quotient transitions of all reachable states. If the length of `es` is at most the number of
+    -- transitions of the given system, then `es` satisfies the limits on the size of a system (`InRange`).
     pub quotient_in_range : length es ≤ length g.places → InRange (length g.labels) 0 count es
     quotient_in_range few = let some = is.numbering.fits.below g.first
         ((is.numbering.reached g.first).1 is.reached_first) in record {
@@ -176,8 +182,10 @@ module _ {rel : Relation} {g : Grouped} {n : Numbering} {dropped : Option ℕ} (
           each = λ k d l. (each_is (get_or es k d) (Contains-get_or es k d l)).0;
         }
 
-    -- Let the list `es` have exactly the quotient transitions (transitions between quotient states) of all reachable
-    -- states. Then the system that is built from `es` is the quotient.
+    -- If the source and the target of a transition are replaced by the quotient states that represent them, the result
+    -- is a quotient transition of the original source, unless the quotient leaves the result out. Let the list `es`
+    -- have exactly the quotient transitions of all reachable states. Then the system that is built from `es` is the
+    -- quotient.
     pub built : (q : Grouped) → IsBuilt 0 count g.labels es q → Quotient rel A (system_of q)
     built q made =
         let moved = IsPermutation-sym _ _ (IsPermutation-map (transition_of g.labels) es q.places made.grouping.same) in
@@ -198,8 +206,7 @@ module _ {rel : Relation} {g : Grouped} {n : Numbering} {dropped : Option ℕ} (
       (same_is s (target_of e) way (way_on s e c way)) in
       (λ out. inert.0 ((out_is s e c).0 out), λ nothing. (out_is s e c).1 (inert.1 nothing))
 
-  -- Suppose that each transition of a reachable state gives a quotient transition (a transition between quotient
-  -- states). Then no transition of this state is inert.
+  -- Suppose that the quotient leaves out no transition of the reachable state s. Then no transition of s is inert.
   none_inert : (s : ℕ) → Reachable A s → LeavesNothingOut rows s → (b : List ℕ) (v : ℕ) → Step A s b v →
       ¬ ShowsNothing rel A s b v
   none_inert s way whole b v own inert =
@@ -212,9 +219,10 @@ module _ {rel : Relation} {g : Grouped} {n : Numbering} {dropped : Option ℕ} (
       let counts = length-filter_both out (λ x. not (out x)) (λ x. refl) triples in
       absurd (omega (arith, counts, whole, length-map row (between_numbers rows s), found.1))
 
-  -- Quotient transitions are transitions between class numbers, which are the quotient states for the classes. Suppose
-  -- that each transition of the state s gives a quotient transition. Then each quotient transition of a state with the
-  -- same class number as s is also a quotient transition of s.
+  -- If the source and the target of a transition are replaced by the quotient states that represent them, the result is
+  -- a quotient transition of the original source, unless the quotient leaves the result out. Suppose that the same
+  -- quotient state represents the states s and t, and that no transition of s is left out. Then each quotient
+  -- transition of t is also a quotient transition of s.
   pub show_each_other : ShowEachOther rows
   show_each_other s t ms mt same whole x c =
       let ws = (is.numbering.reached s).0 ms in

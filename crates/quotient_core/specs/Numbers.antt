@@ -1,6 +1,6 @@
--- Defines the class numbers of the reachable states, which are the quotient states that represent these states. One
--- pass over the states in ascending order gives each state its class number. Other crates use `IsMarked`, `AreClasses`
--- and `IsNumbering`.
+-- The class number of a reachable state is the quotient state that represents it. This file defines the class numbers
+-- of all reachable states. One pass over the states in ascending order gives each state its class number. Other crates
+-- use `IsMarked`, `AreClasses` and `IsNumbering`.
 use Rattle.std.specs.Prelude.{◌≡◌, ◌↔◌, ℕ, ◌<◌, ◌≤◌, ◌==◌, ◌&&◌, Bool, false, cond, IsTrue, [], ◌∷◌, ◌++◌, List, length}
 use Rattle.std.specs.Prelude.{slice_index, slice_set}
 use Rattle.std.specs.List.{slice_index_or}
@@ -26,11 +26,12 @@ AreClasses rel g blocks =
     EachTwo (system_of g) (λ s t. (slice_index blocks s ≡ slice_index blocks t) ↔ Bisimilar rel (system_of g) s
     (system_of g) t)
 
--- `AreNumbered` holds if each of the `states` states has a block ID, a mark, and a class number, and if the block ID of
--- each class is less than the number of blocks. The mark of a state says whether the state is reachable. The class
--- number of a reachable state is the quotient state that represents it. For each marked state, the class number must be
--- less than the number of classes. For each marked state, the entry of the list `classes` at the index i must equal the
--- block ID of the state if and only if i is the class number of the state.
+-- `AreNumbered` holds if the lists in n fit together. Each state must have a block ID, a mark and a class number, where
+-- `states` is the number of states. The mark of a state says whether the state is reachable. The class number of a
+-- reachable state is the quotient state that represents it. The list `classes` has a block ID for each class, and these
+-- block IDs must be less than the number of blocks. For each marked state, the class number must be less than the
+-- number of classes. For each marked state, the entry of the list `classes` at the index i must equal the block ID of
+-- the state if and only if i is the class number of the state.
 pub record AreNumbered (states : ℕ) (n : Numbering) : Type 0 where
   pub blocks_long : length n.blocks.block_ids ≡ states
   pub reached_long : length n.reached.items ≡ states
@@ -56,10 +57,10 @@ pub record IsNumbering (rel : Relation) (A : System) (n : Numbering) : Type 0 wh
 abbrev pub begins_class : ℕ → Bool → Numbers → Bool
 begins_class b reached old = reached && (slice_index old.by_block.items b == NONE)
 
--- `TakesState` holds if the loop has given the next state, which is in the block b, its class number (the quotient
--- state that represents it). The class numbers are `old` before this step, and `new` after this step. If the state is
--- the first reachable state of its block, the block gets the next class number. The state gets the class number that
--- the table `by_block` then has for the block.
+-- `TakesState` holds if the loop has given a class number to the next state, which is in the block b. The class number
+-- of a state is the quotient state that represents it. The class numbers are `old` before this step of the loop, and
+-- `new` after it. If the state is the first reachable state of its block, the block gets the next class number. The
+-- state gets the class number that the table `by_block` then has for the block.
 pub record TakesState (b : ℕ) (reached : Bool) (old new : Numbers) : Type 0 where
   pub by_block : new.by_block.items ≡ cond (begins_class b reached old)
       (slice_set old.by_block.items b (length old.classes.items)) old.by_block.items

@@ -45,9 +45,9 @@ abbrev pub places_ahead : List Triple → ℕ → List Bool → List ℕ → ℕ
 places_ahead places next marked waiting =
     length (filter (λ e. is_ahead next marked (source_of e)) places) + sum_by (λ s. length (row_of s places)) waiting
 
--- `ReadsOnce` holds if the invariant of the search holds (`Searches`), and if no round has begun. The number of visits
--- (counted reads of transitions) must be at most the number of all transitions minus the number of transitions that may
--- still be read (`places_ahead`).
+-- `ReadsOnce` holds if three conditions are satisfied. First, the invariant of the search holds (`Searches`). Second,
+-- no round has begun. Third, the number of visits (counted reads of transitions) is at most the number of all
+-- transitions minus the number of transitions that may still be read (`places_ahead`).
 pub record ReadsOnce (g : Grouped) (marked : List Bool) (next : ℕ) (waiting : List ℕ) (old new : Counts) : Type 0 where
   pub search : Searches g marked next waiting
   pub few : places_ahead g.places next marked waiting ≤ length g.places

@@ -10,14 +10,15 @@ use Rattle.lts.specs.Lts.{Grouped, Triple, source_of, label_of, target_of, place
 use Rattle.signatures.specs.Lists.{list_at, AreIds, Grow}
 use Rattle.partition.specs.Blocks.{AreActive, IsMember, InactiveHaveNone}
 
--- `StepsAreRow` holds if the steps from the state s are exactly the transitions in the row of s, which is the list of
--- the outgoing transitions of s.
+-- `StepsAreRow` holds if the definition `Step` agrees with the row of the state s, which is the list of the stored
+-- transitions from s. There must be a step from s to t with the label a if and only if the row has a transition to t
+-- whose label ID denotes a.
 abbrev pub StepsAreRow : Grouped → ℕ → Type 0
 StepsAreRow l s = (a : List ℕ) (t : ℕ) → Step (system_of l) s a t ↔ ((e : Triple) × Contains (row_of s l.places) e
     × (text_of l.labels (label_of e) ≡ a) × (target_of e ≡ t))
 
--- `StepAt` holds if the step s -a-> t is the transition at the place `place`, which is an index in the list of all
--- transitions.
+-- `StepAt` holds if the step s -a-> t is stored as the transition at the place `place`, which is an index in the list
+-- of all transitions.
 pub record StepAt (l : Grouped) (s : ℕ) (a : List ℕ) (t : ℕ) : Type 0 where
   pub place : ℕ
   pub below : place < length l.places
@@ -34,8 +35,8 @@ abbrev pub Parts : Grouped → List ℕ → List ℕ → Type 0
 Parts l of next = (s t : ℕ) → s < l.states → t < l.states → slice_index next s ≡ slice_index next t
     → slice_index of s ≡ slice_index of t
 
--- Suppose that the row of the state s, which is the list of its outgoing transitions, is empty. Then there is no step
--- from s.
+-- Suppose that the row of the state s, which is the list of the stored transitions from s, is empty. Then the
+-- definition `Step` gives no step from s.
 pub no_step : (l : Grouped) (s : ℕ) → StepsAreRow l s → row_of s l.places ≡ [] → (a : List ℕ) (t : ℕ)
     → ¬ Step (system_of l) s a t
 no_step l s steps empty a t step = let found = (steps a t).0 step in grind (arith, common_steps)

@@ -95,8 +95,8 @@ pub record HasBuiltIndex (l : Grouped) (reach : Reach) (p r : Signed) : Type 0 w
   pub reach_is : search_index.reach ≡ reach
   pub index : IsSearchIndex l r.blocks.block_ids search_index
 
--- `MayBuildIndex` holds if the predecessor index was built, or if nothing was changed. The data of the round is p
--- before this step, and r after this step.
+-- `MayBuildIndex` holds if the data r of the round equals its earlier data p, or results from p by building the
+-- predecessor index.
 abbrev pub MayBuildIndex : Grouped → Reach → Signed → Signed → Type 0
 MayBuildIndex l reach p r = (r ≡ p) ⊎ HasBuiltIndex l reach p r
 
@@ -121,21 +121,21 @@ IsNotPending Absent = Unit {0}
 IsNotPending (Searched e) = Unit {0}
 IsNotPending (Pending e) = ⊥
 
--- `SearchesIfPending` holds if a search of the predecessor index was pending and was made, or if no search was pending
--- and nothing was changed. The data of the round is p before this step, and r after this step.
+-- `SearchesIfPending` holds if the data r of the round results from its earlier data p by making the pending search of
+-- the predecessor index (`HasSearched`), or if no search is pending in p and r equals p.
 abbrev pub SearchesIfPending : Grouped → Signed → Signed → Type 0
 SearchesIfPending l p r = (IsNotPending p.index_state × (r ≡ p)) ⊎ HasSearched l p r
 
--- `HasDropped` holds if some states in singleton blocks were dropped from the active states (the states that the round
--- processes). The data of the round is p before this step, and r after this step. There must be no predecessor index.
+-- `HasDropped` holds if the data r of the round results from its earlier data p by dropping some states in singleton
+-- blocks from the active states (the states that the round processes). There must be no predecessor index.
 pub record HasDropped (p r : Signed) : Type 0 where
   pub absent : p.index_state ≡ Absent
   pub same : r ≡ record p { blocks = r.blocks; signature_ids = r.signature_ids }
   pub blocks : r.blocks ≡ record p.blocks { active = r.blocks.active }
   pub leaves : DropsSingletons p.blocks.block_ids p.blocks.active r.blocks.active
 
--- `MayDropSingletons` holds if some states in singleton blocks were dropped from the active states (the states that the
--- round processes), or if nothing was changed. The data of the round is p before this step, and r after this step.
+-- `MayDropSingletons` holds if the data r of the round equals its earlier data p, or results from p by dropping some
+-- states in singleton blocks from the active states (the states that the round processes).
 abbrev pub MayDropSingletons : Signed → Signed → Type 0
 MayDropSingletons p r = (r ≡ p) ⊎ HasDropped p r
 

@@ -58,10 +58,13 @@
 //! these states and the other states of their old block are no longer inert.
 //!
 //! If the search finds more states than necessary, the result is still correct. The split uses only signatures that
-//! have changed since the last round, and the states of a block whose signatures have not changed stay together. A
-//! round over all states can make at most one signature for each state, and the empty signature. If more than twice as
-//! many signatures are stored, all signatures are discarded. The next round then processes every state that has a
-//! transition and is not in a singleton block.
+//! have changed since the last round, and the states of a block whose signatures have not changed stay together.
+//!
+//! For branching bisimilarity, the signatures of earlier rounds stay stored after the index was built. Let k be the
+//! number of active states when the index is built. A round over these states makes at most k + 1 signatures: one for
+//! each state, and the empty signature. If more than 2 * (k + 1) signatures are stored after a later round, all
+//! signatures are discarded. The next round then processes every state that has a transition and is not in a singleton
+//! block, and k is the number of these states from then on.
 //!
 //! A state moves to a new block only if the new block has at most half of the states of the old block (`partition`). So
 //! the search goes back along each transition from a new block at most log2 n times, where n is the number of states.

@@ -18,10 +18,10 @@ use Rattle.signatures.proofs.Rising.{rising_unique}
 use Rattle.std.proofs.lemmas.Map.Keys.{Less-from_sorted}
 
 -- `HasEnds` holds if two conditions are satisfied, in which each pair is represented by a number (`pair_value`). First,
--- the list has a pair that is at most `low` and a pair that is at least `high`. Second, for each range that includes
--- `low` and `high`, let c be the split point of the range, which is the number at which a list with this range is
--- divided into two halves (`IsCutPoint`). Then c must have the same bits as each pair of the list at all bit positions
--- above `bit` (`IsAlike`), where 2^bit is the highest power of two that divides c.
+-- the list has a pair that is at most `low` and a pair that is at least `high`. Second, take any range from l to h that
+-- includes `low` and `high`. Among all numbers that are greater than l and at most h, let c be the number that is
+-- divisible by the highest power of two (`IsCutPoint`). Then c must have the same bits as each pair of the list at all
+-- bit positions above `bit` (`IsAlike`), where 2^bit is the highest power of two that divides c.
 pub record HasEnds (list : List (ℕ × ℕ)) (low high : ℕ) : Type 0 where
   pub before : (z : ℕ × ℕ) × Contains list z × (pair_value z ≤ low)
   pub after : (z : ℕ × ℕ) × Contains list z × (high ≤ pair_value z)
@@ -29,8 +29,9 @@ pub record HasEnds (list : List (ℕ × ℕ)) (low high : ℕ) : Type 0 where
 
 -- Each pair is represented by a number (`pair_value`). Let `low` be the number for the first pair of a list that is not
 -- empty, and let `high` be the number for its last pair. Then the numbers for all pairs of the list are in the range
--- from `low` to `high`. The split point of this range (`IsCutPoint`) is also the split point of the list, which is the
--- number that divides the list into two halves.
+-- from `low` to `high`. Among all numbers that are greater than `low` and at most `high`, let c be the number that is
+-- divisible by the highest power of two (`IsCutPoint`). Then c is the number that divides the list into two halves
+-- (`IsCut`).
 module _ (list : List (ℕ × ℕ)) (rise : IsStrictlySortedBy pair_cmp list) (fit : Fit list) (some : 0 < length list)
     {low high : ℕ} (low_is : low ≡ pair_value (get_or list 0 (0, 0)))
     (high_is : high ≡ pair_value (get_or list (length list - 1) (0, 0))) where

@@ -120,12 +120,14 @@ ends_halves is =
       alike = λ bit l h c place under over. alike_wider _ bit l h c _ place cut (omega arith) (omega arith);
     }
 
--- The split point of a list is the number that divides the list into two halves. Suppose that the numbers `low` and
--- `high` determine the split point of the list xs, and that `low'` and `high'` determine the split point of the list ys
--- (`HasEnds`). Let c be the split point of the smallest range that includes these four numbers (`IsCutPoint`), and let
--- 2^bit be the highest power of two that divides c. Then c is the split point of the union of xs and ys: it divides the
--- union into two halves. Moreover, the number that represents any pair of xs or ys (`pair_value`) has the same bits as
--- c at all bit positions above `bit` (`IsAlike`).
+-- The split point of a list is the number that divides the list into two halves. The split point of the range from l to
+-- h is defined as follows (`IsCutPoint`): among all numbers that are greater than l and at most h, it is the number
+-- that is divisible by the highest power of two. Suppose that the numbers `low` and `high` determine the split point of
+-- the list xs, and that `low'` and `high'` determine the split point of the list ys (`HasEnds`). Let c be the split
+-- point of the smallest range that includes these four numbers, and let 2^bit be the highest power of two that divides
+-- c. Then c is the split point of the union of xs and ys: it divides the union into two halves. Moreover, the number
+-- that represents any pair of xs or ys (`pair_value`) has the same bits as c at all bit positions above `bit`
+-- (`IsAlike`).
 pub placed : {xs ys : List (ℕ × ℕ)} {low high low' high' bit l h c : ℕ} → IsCutPoint bit l h c → HasEnds xs low high
     → HasEnds ys low' high' → l ≡ min low low' → h ≡ max high high'
     → IsAlike bit xs c × IsAlike bit ys c × ((list : List (ℕ × ℕ)) → Unites list xs ys → IsCut list c)

@@ -166,8 +166,9 @@ impl Interner {
     /// Computes the union of the lists with the IDs in `lists` and of `pairs`, and returns the ID of the union. The
     /// pairs may be in any order. The content of `pairs` after the call is unspecified.
     ///
-    /// Each list has a base, which is a list of pairs that several lists can share, and the call computes unions of
-    /// bases. If the call fails, the unions of bases that it has already computed stay stored.
+    /// Each list is stored in two parts: a base, which is a list of pairs that several lists can share, and the extra
+    /// pairs, which the base lacks. To unite the lists, the call first computes and stores unions of their bases. If
+    /// the call fails, the unions that it has already stored are not removed.
     pub fn join(&mut self, lists: &[u32], pairs: &mut Vec<(u32, u32)>) -> Result<u32, Memory>
         requires { AreIds self.old lists.now }
 

@@ -2,17 +2,17 @@
 //! ID. So two lists are equal if and only if their IDs are equal. Other crates use these lists as the signatures of
 //! states.
 //!
-//! A list is stored in two parts: as a base, which is a list of pairs that many lists can share, and as a few extra
-//! pairs, which the base lacks. The bases are interned in a lower layer, the trie, and have IDs there. The trie stores
-//! a short list as a range of pairs. It stores a long list as the IDs of its two halves, which are themselves lists of
-//! the trie. Each of the following modules uses only modules that come after it, and uses them only through their
+//! A list is stored in two parts: a base, which is a list of pairs that many lists can share, and a few extra pairs,
+//! which the base lacks. The bases are interned in a lower layer, the trie, and have IDs there. The trie stores a short
+//! list as a range of pairs. It stores a long list as the IDs of its two halves, which are themselves lists of the
+//! trie. Each of the following modules uses only modules that come after it, and uses them only through their
 //! contracts.
 //!
 //! * `interner` has the public type `Interner`, which other crates use.
 //! * `list_union` computes the union of several lists.
 //! * `table` interns lists, so that equal lists get the same ID.
-//! * `extensions` stores each list as a base, which is a list that other lists can share, and as extra pairs, which the
-//!   base lacks.
+//! * `extensions` stores each list in two parts: a base, which is a list that other lists can share, and the extra
+//!   pairs, which are the pairs that the base lacks.
 //! * `unions` makes new bases, which are lists that other lists can share: from pairs, from a list and pairs, or from
 //!   two lists.
 //! * `trie` interns the bases, which are lists that other lists can share, so that equal bases get the same ID.

@@ -3,7 +3,7 @@
 use autfmt::{SliceSource, Source};
 use lts::{Counter, Meter};
 
-/// The way in which an example ended.
+/// States whether an example ended with the expected result, with a failed allocation, or in a wrong way.
 #[derive(Clone, Copy, PartialEq)]
 pub(crate) enum Ending {
     /// The example ended with the expected result.
@@ -26,8 +26,8 @@ impl Ending {
         }
     }
 
-    /// Returns the way in which an example ended, if no allocation failed. The argument `is_right` says whether the
-    /// result of the example is correct.
+    /// Rates an example in which no allocation failed. The argument `is_right` says whether the result of the example
+    /// is correct. If it is correct, the call returns `Wanted`, and otherwise `Wrong`.
     pub(crate) fn wanted_if(is_right: bool) -> Ending {
         if is_right {
             Ending::Wanted
@@ -36,8 +36,8 @@ impl Ending {
         }
     }
 
-    /// Returns the way in which an example ended, if an allocation failed. The argument `is_right` says whether the
-    /// example satisfied its contract.
+    /// Rates an example in which an allocation failed. The argument `is_right` says whether the example satisfied its
+    /// contract. If it did, the call returns `Refused`, and otherwise `Wrong`.
     pub(crate) fn refused_if(is_right: bool) -> Ending {
         if is_right {
             Ending::Refused

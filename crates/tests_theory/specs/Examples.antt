@@ -108,7 +108,8 @@ lone_state = system 0 1 []
 abbrev pub only_a : System
 only_a = chain (a ∷ [])
 
--- A system with one transition, which has the label `a` and leads from the first state 1 to the state 0.
+-- A system whose first state is the state 1. The only transition has the label `a`, and leads from this state to the
+-- state 0.
 abbrev pub only_a_from_1 : System
 only_a_from_1 = system 1 2 (edge 1 a 0 ∷ [])
 
@@ -235,7 +236,7 @@ first_in_cycle = system 1 2 (edge 1 a 0 ∷ edge 0 a 1 ∷ [])
 abbrev pub first_is_two : System
 first_is_two = system 2 3 (edge 2 a 0 ∷ edge 0 b 1 ∷ [])
 
--- A system in which the first state 2 is bisimilar to the smaller state 0. The first state is the leader of these two
+-- A system whose first state is the state 2. This state is bisimilar to the state 0, and is the leader of these two
 -- states, which means that it represents their class. This class has the number 0, which is less than the numbers of
 -- all other classes.
 abbrev pub first_leads : System

@@ -1,5 +1,5 @@
--- Lemmas about the class numbers of reachable states, which are the quotient states that represent these states. A
--- leader is the state of the system that represents its class.
+-- The class number of a reachable state is the quotient state that represents it. These are lemmas about class numbers.
+-- A leader is the state of the system that represents its class.
 --
 -- Each reachable state has exactly one class number. Two reachable states have the same class number if and only if
 -- they are bisimilar. The class numbers (the quotient states) are exactly the numbers less than the number of leaders.

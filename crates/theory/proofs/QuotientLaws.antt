@@ -1,6 +1,6 @@
 -- The quotient of a well-formed system is a well-formed system. Each step from a reachable state is represented by a
--- transition of the quotient, unless the quotient leaves this transition out. For branching bisimilarity, the quotient
--- leaves out the internal transitions from a state to itself.
+-- transition of the quotient, except for the steps that the quotient leaves out. For branching bisimilarity, these are
+-- the internal steps whose source and target are represented by the same quotient state.
 use Rattle.std.proofs.Common.{◌⊎◌, ℕ, ◌<◌, List, get_or, sym, subst, inl, inr}
 use Rattle.std.proofs.lemmas.List.Elements.{All-contains, Contains-get_or}
 use Rattle.theory.specs.System.{System, IsSystem, IsAmong, Transition, Step, Internal, AnyStep, Reachable, Silent}
@@ -21,8 +21,8 @@ pub reachable_silent : (A : System) (s t : ℕ) → Reachable A s → Silent A s
 reachable_silent A s t path silent =
     leads_append (AnyStep A) A.first s t path (leads_map (Internal A) (AnyStep A) (λ x y r. (internal, r)) s t silent)
 
--- It is decidable whether the quotient leaves out a transition. For branching bisimilarity, the quotient leaves out the
--- internal transitions from a state to itself.
+-- It is decidable whether the quotient leaves out a transition between quotient states. For branching bisimilarity, the
+-- quotient leaves out the internal transitions from a quotient state to itself.
 dropped_decided : (rel : Relation) (e : Transition) → Dec (IsDropped rel e)
 dropped_decided Strong e = no (λ h. h)
 dropped_decided Branching e = both (same_bytes e.label internal) (same_number e.source e.target)
@@ -53,9 +53,9 @@ module _ (rel : Relation) (A Q : System) (sys : IsSystem A) (quotient : Quotient
         stands_among e ((quotient.transitions e).0 (Contains-get_or Q.transitions k d l)).0;
   }
 
-  -- Suppose that the reachable state s has a step to t with the label a. Then the quotient has a step with the label a
-  -- from the quotient state that represents s to the quotient state that represents t, unless the quotient leaves this
-  -- step out.
+  -- Suppose that the reachable state s has a step to t with the label a. Let n be the quotient state that represents s.
+  -- Then some quotient state m represents t. Moreover, the quotient has a step from n to m with the label a, or it
+  -- leaves out such steps (`IsDropped`).
   pub step_numbered : (s n : ℕ) (a : List ℕ) (t : ℕ) → Numbered rel A s n → Step A s a t →
       (m : ℕ) × Numbered rel A t m × (Step Q n a m ⊎ IsDropped rel (record { source = n; label = a; target = m }))
   step_numbered s n a t (path, number) step =

@@ -51,7 +51,7 @@ module _ {active : List ℕ} {old w : Search} (woken : AreMarkedUnvisited old.st
   pub unvisited : (s : ℕ) → IsMember active s → stage_at w.stages s ≡ Unvisited
   unvisited s one = ap (stage_at w.stages) (sym one.2) ∙ woken.unvisited one.0 one.1
 
-  -- Each number s has the status `Unvisited` or `Completed`. If s is not a state of the system, its status is
+  -- Each state has the status `Unvisited` or `Completed`. A number s that is not a state of the system has the status
   -- `Unvisited` by default.
   unless_finished : (s : ℕ) → (stage_at w.stages s ≡ Unvisited) ⊎ IsFinished w.stages s
   unless_finished s = let past = get_or_past w.stages s Unvisited in

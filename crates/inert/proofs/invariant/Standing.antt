@@ -71,8 +71,9 @@ module _ {u : Under} {signatures : List (List (ℕ × ℕ))} {w : Search} (walks
   pub ties : (p : ℕ) → p < length w.stack → LeadsInertly u (slice_index w.stack p) (slice_index w.stack (here w))
   ties p low = walks.connects p (here w) low (on_stack (frames_some (omega (arith, low)))) (λ i d h _. reached i d h)
 
--- Suppose that the state t is completed with the signature ID k, and that t shares a block with some state on the
--- stack. Then k is the ID of the signature of t.
+-- The status of a completed state contains a signature ID. Suppose that the state t is completed and its status
+-- contains the signature ID k. Suppose also that t shares a block with some state on the stack. Then k is the ID of the
+-- signature of t.
 pub list_signed : {u : Under} {signatures : List (List (ℕ × ℕ))} {w : Search} → SearchInvariant u signatures w
     → (p t k : ℕ)
     → p < length w.stack → slice_index w.stack p < u.l.states

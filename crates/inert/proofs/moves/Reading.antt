@@ -210,7 +210,7 @@ module _ {u : Under} {signatures : List (List (ℕ × ℕ))} {first w : Search} 
       same_last : i ≡ length w.frames - 1
       same_last = omega (arith, stays.size, last)
 
-      -- Suppose that the transition at the place (index) k is processed first, and is marked as read afterwards. Then
+      -- Suppose that the search first processes the transition at the place (index) k, and then marks it as read. Then
       -- the search has read the transitions up to and including this transition (`Marked`).
       taken_first : (m : Search) (enters : Bool) → HandlesStep u.l.places step w m enters
           → Marked u signatures first (record m { frames = set m.frames i x }) k enters
@@ -241,7 +241,7 @@ module _ {u : Under} {signatures : List (List (ℕ × ℕ))} {first w : Search} 
           let one = price_one_more u.visited (top first.frames).next k reads.forward in
           grind (arith, on, here, remaining, is_next, next, before, took, reads, one, length-set m.frames i x, stays)
 
-      -- Suppose that the transition at the place (index) k is marked as read first, and is processed afterwards. Then
+      -- Suppose that the search first marks the transition at the place (index) k as read, and then processes it. Then
       -- the search has read the transitions up to and including this transition (`Marked`).
       pub marked : {m : Search} {enters : Bool} →
           HandlesStep u.l.places step (record w { frames = set w.frames i x }) m enters

@@ -9,8 +9,8 @@ use std::marker::Model;
 use std::test::Fail;
 use test_support::{LONE_STATE_TEXT, STEP, TWO_EQUAL_TARGETS_TEXT, check};
 
-/// Files in memory. Each entry has the name of a file, its contents, and the number of bytes that can be read before
-/// reading the file fails. This number is `None` if reading the file never fails.
+/// Files in memory. Each entry has the name of a file, its contents, and the number of bytes after which reading the
+/// file fails. This number is `None` if reading the file never fails.
 const FILES: [(&str, &[u8], Option<usize>); 8] = [
     ("two.aut", TWO_EQUAL_TARGETS_TEXT, None),
     ("lone.aut", LONE_STATE_TEXT, None),
