@@ -13,7 +13,8 @@ use Rattle.std.proofs.lemmas.List.{length-set, length_push, get_or_append_left, 
 use Rattle.std.proofs.lemmas.List.Elements.{All-push, All-weaker, All-contains, All-from_get_or, All-from_recursion}
 use Rattle.std.proofs.lemmas.List.Elements.{Contains-push, Contains-push_cases, Contains-append_left}
 use Rattle.std.proofs.lemmas.List.Folds.{list_any_none}
-use Rattle.std.proofs.lemmas.List.Sums.{length-filter, count_by-le-length, get_or-le-sum_by, sum_by-cons, sum_by_more_le}
+use Rattle.std.proofs.lemmas.List.Sums.{length-filter, count_by-le-length, get_or-le-sum_by, sum_by-cons}
+use Rattle.std.proofs.lemmas.List.Sums.{sum_by_more_le}
 use Rattle.std.proofs.lemmas.Map.Keys.{IsDistinct-head, IsDistinct-tail}
 use Rattle.theory.specs.System.{System, Step, Leads, internal}
 use Rattle.theory.specs.declared.relation.Relation.TheVariants.{Branching}
@@ -32,11 +33,13 @@ use Rattle.partition.proofs.CallerLemmas.{in_one}
 use Rattle.refine_core.proofs.CallerLemmas.{none_marked, marked_more}
 use Rattle.refine.specs.Search.{FoundStates, WasFound, Reaches, ExploresStep, IsExplored, FindsFrom}
 
--- If the states in a list are distinct, the number of their transitions is at most the number of all transitions.
 module _ (places : List Triple) where
+  -- Returns the number of transitions of the state t.
   abbrev pub row_length : ℕ → ℕ
   row_length t = length (row_of t places)
 
+  -- If the states in a list are distinct, the sum of the numbers of their transitions is the number of the transitions
+  -- whose sources are in the list.
   rows_sum : (xs : List ℕ) → IsDistinct eqb xs
       → sum_by row_length xs ≡ length (filter (λ e. list_any (eqb (source_of e)) xs) places)
   rows_sum [] once = omega (arith, length-filter-sum (λ _. false) (λ _. false) (λ _. false) (λ _. refl) places)
@@ -52,15 +55,21 @@ module _ (places : List Triple) where
             (λ e. list_any (eqb (source_of e)) xs) (λ e. parts (source_of e)) places,
       )
 
-  pub rows_few : (xs : List ℕ) → IsDistinct eqb xs → sum_by row_length xs ≤ length places
+  -- If the states in a list are distinct, they have together at most as many transitions as there are in all.
+  rows_few : (xs : List ℕ) → IsDistinct eqb xs → sum_by row_length xs ≤ length places
   rows_few xs once = search (rules, rows_sum, length-filter, count_by-le-length)
 
+  -- If the states in a list are distinct, the number of transitions of the first i states and of the next state is at
+  -- most the number of all transitions.
   pub rows_room : (xs : List ℕ) (i : ℕ) → IsDistinct eqb xs → i < length xs
       → sum_by row_length (take i xs) + row_length (slice_index xs i) ≤ length places
   rows_room xs i once h = omega (arith, rows_few xs once, sum_by_more_le row_length xs i 0 h)
 
+  -- If the states in a list are distinct, the number of their transitions is at least the number of transitions of the
+  -- first state, and at most the number of all transitions.
   pub rows_all : (xs : List ℕ) (i : ℕ) → IsDistinct eqb xs → length xs ≤ i → 0 < length xs
-      → (row_length (slice_index xs 0) ≤ sum_by row_length (take i xs)) × (sum_by row_length (take i xs) ≤ length places)
+      → (row_length (slice_index xs 0) ≤ sum_by row_length (take i xs))
+      × (sum_by row_length (take i xs) ≤ length places)
   rows_all xs i once long some = rw (take_all i xs long) (get_or-le-sum_by row_length xs 0 0 some, rows_few xs once)
 
 -- `ReadsRow` holds while the search reads the transitions of the found state at the index i. In the list of all
@@ -222,24 +231,18 @@ module _ (u : Under) (s : ℕ) (lts : IsLts u.l) (laws : Laws)
       ascending = ascending;
     }
 
--- The following lemmas are about the beginning of a search from the state s, when s is the only state that the search
--- has found.
-module _ (u : Under) (s : ℕ) (laws : Laws) (marked : List Bool) (below : s < length marked) (size : length marked
-    ≡ u.l.states) (off : IsUnmarked marked) (new : FoundStates)
-    (reaches : Reaches s (record { marked = marked; states = []; pairs = [] }) new) where
-  abbrev none : FoundStates
-  none = record { marked = marked; states = []; pairs = [] }
-
-  its : new ≡ record { marked = set marked s true; states = s ∷ []; pairs = [] }
-  its = elim reaches [ inl was ↦ absurd (off s was.0) | inr now ↦ now.1 ]
-
-  pub begun : FindsFrom u s new 0
-  begun = subst (λ f. FindsFrom u s f 0) (sym its) (record {
-    size = length-set marked s true ∙ size;
-    marked = marked_more marked [] s below (off s) (none_marked marked off);
-    first = (omega arith, refl);
-    led = search rules;
-    few = omega arith;
-    own = λ z c. absurd (omega (arith, c.1));
-    taken = λ j h. absurd (omega (arith, h));
-  })
+-- Suppose that no state was marked before the search has reached the state s. Then the invariant of the search holds
+-- when the search has found s and has read no transition.
+pub begun : (u : Under) (s : ℕ) (marked : List Bool) (new : FoundStates) → Laws → s < length marked
+    → length marked ≡ u.l.states → IsUnmarked marked
+    → Reaches s (record { marked = marked; states = []; pairs = [] }) new → FindsFrom u s new 0
+begun u s marked new laws below size off (inl (was, is)) = absurd (off s was)
+begun u s marked new laws below size off (inr (now, is)) = subst (λ f. FindsFrom u s f 0) (sym is) (record {
+  size = length-set marked s true ∙ size;
+  marked = marked_more marked [] s below (off s) (none_marked marked off);
+  first = (omega arith, refl);
+  led = search rules;
+  few = omega arith;
+  own = λ z c. absurd (omega (arith, c.1));
+  taken = λ j h. absurd (omega (arith, h));
+})

@@ -91,6 +91,7 @@ impl Search {
 
     /// Finds the states to which inert transitions lead from `s`, including `s` itself. Collects the pairs (label ID,
     /// block ID of the target) of all transitions of these states that are not inert.
+    #[tactic(auto, using(crate::proofs::Searching::rows_room, crate::proofs::Searching::rows_all))]
     fn find<M: Meter>(&mut self, lens: &Lens<M>, s: u32, m: &mut M) -> Result<(), Memory>
         requires visited { lens.now.visited ≡ [] }
         requires state { s < lens.now.l.states }
@@ -126,8 +127,7 @@ impl Search {
         ensures found { OnOk result (FindsFrom lens.now s self.new (i + 1)) }
         ensures kept { OnOk result (StartsWith self.new.states self.old.states) }
         ensures size { length self.new.marked ≡ length self.old.marked }
-        ensures visits { let t = slice_index self.old.states i in
-            let row = length (row_of t lens.now.l.places) in
+        ensures visits { let row = length (row_of (slice_index self.old.states i) lens.now.l.places) in
             Visits M.counted m.old m.new result row row }
     {
         lts::rows_follow();
@@ -153,10 +153,7 @@ impl Search {
     {
         match step {
             Step::Inert(t) => self.reach(t),
-            Step::Shows(label, block) => {
-                self.pairs.push((label, block))?;
-                Ok(())
-            }
+            Step::Shows(label, block) => Ok(self.pairs.push((label, block))?),
         }
     }
 

@@ -1,4 +1,5 @@
-use Rattle.std.proofs.Common.{◌≡◌, ℕ, ◌∙◌, ◌≤◌, ◌<◌, List, [], length, slice_index, All, ap, sym, subst, arith, rules}
+use Rattle.std.proofs.Common.{◌≡◌, ℕ, ◌∙◌, ◌+◌, ◌≤◌, ◌<◌, List, [], length, slice_index, All, ap, sym, subst, arith}
+use Rattle.std.proofs.Common.{rules}
 use Rattle.std.proofs.Transfers.{starts_with_length, starts_with_trans}
 use Rattle.std.proofs.lemmas.List.{get_or_read, get_or-take, take_all}
 use Rattle.std.proofs.lemmas.List.Elements.{All-push, All-weaker, Contains-get_or}
@@ -53,8 +54,8 @@ loop-k-preserved g c =
         kept = starts_with_trans _ _ _ done.kept was.kept;
         taken = subst (All (IsExplored u s c.explore.new.self))
             (sym (c.rows_follow.ensures.inside u.l.places _ c.row-start.result.0 _ k its from c.loop-k-test.true))
-            (All-push (IsExplored u s c.explore.new.self) _ e (All-weaker (IsExplored u s c.loop-k.self) _ done.keeps _ was.taken)
-            done.now);
+            (All-push (IsExplored u s c.explore.new.self) _ e
+            (All-weaker (IsExplored u s c.loop-k.self) _ done.keeps _ was.taken) done.now);
       };
       size = c.explore.ensures.size ∙ c.loop-k.invariant.size;
       cost = search (rules, one_visit c.requires.visited k);
@@ -68,13 +69,9 @@ returns-clause-found g c =
     let was = c.loop-k.invariant.row in
     let its = row g (goal.at.returns-clause-found g c).After-row-start in
     let same = sym (ap (λ xs. slice_index xs i) was.kept) ∙ get_or-take _ f.states i 0 c.requires.more in
-    record {
-      size = was.search.size;
-      marked = was.search.marked;
-      first = was.search.first;
-      led = was.search.led;
-      few = omega (arith, c.requires.more, starts_with_length _ _ was.kept);
-      own = was.search.own;
-      taken = below_more _ i was.search.taken (subst (λ t. All (IsExplored u c.args.s f) (row_of t u.l.places)) same
-          (subst (All (IsExplored u c.args.s f)) (take_all _ _ (omega (arith, its.count, c.loop-k-test.false))) was.taken));
-    }
+    let few : i + 1 ≤ length f.states = omega (arith, c.requires.more, starts_with_length _ _ was.kept) in
+    let row = subst (λ t. All (IsExplored u c.args.s f) (row_of t u.l.places)) same
+    (subst (All (IsExplored u c.args.s f)) (take_all _ _ (omega (arith, its.count, c.loop-k-test.false))) was.taken) in
+    let taken : (j : ℕ) → j < i + 1 → All (IsExplored u c.args.s f) (row_of (slice_index f.states j) u.l.places) =
+    below_more _ i was.search.taken row in
+    search (rules, was.search, few, taken)
