@@ -42,8 +42,8 @@ pub trait Signing {
         // Always
         ensures cost { Costs (M.counted m.old) (M.counted m.new) 0 0 (length l.now.places) };
 
-    /// Discards the signatures that are cached from round to round, if the relation needs any. The next round then uses
-    /// no signature of an earlier round.
+    /// Discards the signatures that are cached from round to round. Does nothing for strong bisimilarity, because no
+    /// strong signature is cached.
     fn discard_cached(round: SignedBlocks) -> Result<SignedBlocks, Memory>
         ensures same { IfOk result (λ r. (r.blocks ≡ round.blocks) × (r.visited ≡ round.visited)) }
         ensures discarded { IfOk result (λ r. relation ≡ branching
@@ -68,6 +68,7 @@ pub trait Signing {
 /// Finds the states that the round processes, and computes their signatures. The split then uses these signatures to
 /// separate states of the same block. The number of visits (counted reads of transitions) equals the number of
 /// transitions. If fewer visits are needed, the function makes further visits and ignores their results.
+#[tactic(auto, using(lts::proofs::CallerLemmas::left_counts))]
 pub(crate) fn sign_each<S: Signing, M: Meter>(
     l: &Lts<M>,
     round: SignedBlocks,
@@ -87,9 +88,11 @@ pub(crate) fn sign_each<S: Signing, M: Meter>(
     Ok(signed)
 }
 
-/// Computes the signature of each state with respect to the given blocks. All states must be active, and all blocks must
-/// count as new (`first_new` is 0), as if no round had run. Returns the interned signatures and, for each state, the ID
-/// of its signature. The number of visits (counted reads of transitions) equals the number of transitions.
+/// Computes the signature of each state with respect to the given blocks, as if no round had run. All states must be
+/// active (processed by the round), and all blocks must count as new (`first_new` is 0). Returns the interned
+/// signatures and, for each state, the ID of its signature. The number of visits (counted reads of transitions) equals
+/// the number of transitions.
+#[tactic(auto, using(lts::proofs::CallerLemmas::left_none))]
 pub fn sign_all<S: Signing, M: Meter>(
     alloc: Global,
     l: &Lts<M>,
