@@ -3,14 +3,10 @@
 use Rattle.std.proofs.Common.{rules, ◌≡◌, ◌↔◌, ◌∙◌, ℕ, zero, suc, ◌<◌, List, [], ◌∷◌, length, get_or, slice_index, ap}
 use Rattle.std.proofs.Common.{subst₂, refl}
 use Rattle.std.proofs.lemmas.List.{get_or-map, length-map}
-use Rattle.theory.specs.declared.relation.Relation.{Relation}
-use Rattle.theory.specs.Blocks.{Split}
-use Rattle.lts.specs.Lts.{Grouped, system_of}
 use Rattle.signatures.specs.Lists.{list_at, AreLists, AreIds}
 use Rattle.partition.specs.Splitting.{Splits}
-use Rattle.inert.specs.Signed.{IsSignature}
 use Rattle.refine_core.specs.Signatures.{list_of}
-use Rattle.refine_core.proofs.CallerLemmas.{Labelled, equal_lists, Splits-signatures}
+use Rattle.refine_core.proofs.CallerLemmas.{Splits-signatures}
 use Rattle.refine.specs.Signed.{each_signature, signature_at}
 
 -- The list `signature_ids` has the ID of an interned signature for each state. The signature of the state s is the
@@ -43,17 +39,3 @@ pub split_alike : (interned signatures : List (List (ℕ × ℕ))) (signature_id
     ↔ ((slice_index p s ≡ slice_index p t) × (signature_at signatures s ≡ signature_at signatures t))
 split_alike interned signed signature_ids ns p old new q count more view are each given size is split alike s t h k =
     search (rules, length-map, subst₂, Splits-signatures, signature_at-list)
-
--- Let `blocks` and `new` be the blocks before and after a split. Suppose that two states share a block after the split
--- if and only if they shared a block before the split and have equal signatures. Then the split is one step of
--- refinement (`Split`).
-pub signed_is_split : (rel : Relation) (l : Grouped) → Labelled l → (blocks : List ℕ)
-    (signature : ℕ → List (ℕ × ℕ)) (new : List ℕ) → ((s : ℕ) → s < l.states → IsSignature rel l blocks s (signature s))
-    → ((s t : ℕ) → s < l.states → t < l.states
-    → (slice_index new s ≡ slice_index new t) ↔ ((slice_index blocks s ≡ slice_index blocks t)
-    × (signature s ≡ signature t))) → Split rel (system_of l) (slice_index blocks) (slice_index new)
-signed_is_split rel l labelled blocks signature new signed parted s t ls lt =
-    let interned = equal_lists rel l labelled blocks s t (signature s) (signature t) (signed s ls) (signed t lt) in (
-      λ e. let h = (parted s t ls lt).0 e in (h.0, interned.0 h.1),
-      λ h. (parted s t ls lt).1 (h.0, interned.1 h.1),
-    )

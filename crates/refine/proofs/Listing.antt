@@ -19,9 +19,10 @@ module _ (pairs more : List (ℕ × ℕ)) where
   signatures_in-more [] are = refl
   signatures_in-more (x ∷ xs) are =
       let its = All-head (IsSpan pairs) x xs are in
-      ap (λ l. l ∷ signatures_in (pairs ++ more) xs)
-      (slice_range-append pairs more x.start x.end its.forward its.within)
-      ∙ ap (λ l. signature_in pairs x ∷ l) (signatures_in-more xs (All-tail (IsSpan pairs) x xs are))
+      rw (
+        slice_range-append pairs more x.start x.end its.forward its.within,
+        signatures_in-more xs (All-tail (IsSpan pairs) x xs are),
+      )
 
 -- A span is a range of the buffer in which a list of pairs is stored. Suppose that the pairs of a list are appended to
 -- the buffer, and that the span of this list is appended to the list of spans. Then this list is the last stored list,

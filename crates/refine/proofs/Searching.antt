@@ -1,81 +1,93 @@
 -- Lemmas about a search along inert transitions. They show how each transition changes the search, and that the search
 -- ends with the signature of the state at which it began.
-use Rattle.std.proofs.Common.{rules, ◌≡◌, ◌∙◌, ◌↔◌, ℕ, ◌+◌, ◌-◌, ◌<◌, ◌≤◌, Bool, true, false, not, cond, eqb, IsTrue}
+use Rattle.std.proofs.Common.{rules, ◌≡◌, ◌∙◌, ◌↔◌, ℕ, ◌+◌, ◌-◌, ◌<◌, ◌≤◌, Bool, true, false, cond, eqb, IsTrue}
 use Rattle.std.proofs.Common.{List, [], ◌∷◌, ◌++◌, length, set, take, slice_index, slice_index_or, Contains, ap, sym}
 use Rattle.std.proofs.Common.{subst, refl, inl, inr, arith}
 use Rattle.std.proofs.lemmas.Grind.{common_steps}
-use borrow.Author.Count.{below_more}
-use Rattle.std.specs.List.{All}
+use Rattle.std.specs.Io.{StartsWith}
+use Rattle.std.specs.List.{All, IsDistinct, filter, list_any, sum_by}
 use Rattle.std.specs.List.Sorted.{IsStrictlySortedBy}
-use Rattle.std.proofs.lemmas.Bool.{cases_lt, false_from_ne_true}
-use Rattle.std.proofs.lemmas.List.{length-set, length_push, get_or_append_left, get_or_push, drop-append-le}
-use Rattle.std.proofs.lemmas.List.Elements.{All-push, All-weaker, All-contains, Contains-get_or, Contains-push}
-use Rattle.std.proofs.lemmas.List.Elements.{Contains-push_cases, Contains-append_left}
-use Rattle.std.proofs.lemmas.List.Sums.{sum_by_push}
+use Rattle.std.proofs.Transfers.{starts_with_of_eq}
+use Rattle.std.proofs.lemmas.Bool.Decides.{nat_tests}
+use Rattle.std.proofs.lemmas.List.{length-set, length_push, get_or_append_left, take_at, take_all}
+use Rattle.std.proofs.lemmas.List.Elements.{All-push, All-weaker, All-contains, All-from_get_or, All-from_recursion}
+use Rattle.std.proofs.lemmas.List.Elements.{Contains-push, Contains-push_cases, Contains-append_left}
+use Rattle.std.proofs.lemmas.List.Folds.{list_any_none}
+use Rattle.std.proofs.lemmas.List.Sums.{length-filter, count_by-le-length, get_or-le-sum_by, sum_by-cons}
+use Rattle.std.proofs.lemmas.List.Sums.{sum_by_more_le}
+use Rattle.std.proofs.lemmas.Map.Keys.{IsDistinct-head, IsDistinct-tail}
 use Rattle.theory.specs.System.{System, Step, Leads, internal}
 use Rattle.theory.specs.declared.relation.Relation.TheVariants.{Branching}
 use Rattle.theory.specs.Blocks.{Inert}
 use Rattle.lts.specs.Labels.{text_of}
-use Rattle.lts.specs.Lts.{Triple, source_of, label_of, target_of, place_at, row_of, system_of, IsTriple, IsLts, IsRow}
-use Rattle.lts.proofs.CallerLemmas.{length-filter-sum, filter-whole}
+use Rattle.lts.specs.Lts.{Triple, source_of, label_of, target_of, row_of, system_of, IsTriple, IsLts}
+use Rattle.lts.proofs.CallerLemmas.{length-filter-sum}
 use Rattle.signatures.specs.Lists.{pair_cmp}
 use Rattle.inert.specs.Signed.{HasPair, IsSignature, pair_under}
 use Rattle.inert.specs.Steps.{Under, IsInert, IsStep}
 use Rattle.inert.specs.Search.{LeadsInertly, Laws}
 use Rattle.inert.specs.declared.lens.Step.{Step as RowStep}
 use Rattle.inert.specs.declared.lens.Step.TheVariants.{Inert as Goes, Shows}
-use Rattle.refine_core.specs.Index.{AreMarked, IsUnmarked}
+use Rattle.refine_core.specs.Index.{IsUnmarked}
 use Rattle.partition.proofs.CallerLemmas.{in_one}
 use Rattle.refine_core.proofs.CallerLemmas.{none_marked, marked_more}
-use Rattle.refine.specs.Search.{FoundStates, WasFound, Reaches, ExploresStep, IsExplored, FindsFrom, apart}
-use Rattle.refine.specs.Search.{places_remaining}
+use Rattle.refine.specs.Search.{FoundStates, WasFound, Reaches, ExploresStep, IsExplored, FindsFrom}
 
--- Suppose that the state t becomes marked. Then the number of transitions whose source is not marked decreases by the
--- number of transitions of t.
-module _ (marked : List Bool) (t : ℕ) (below : t < length marked) (off : ¬ IsTrue (slice_index_or marked t false)) where
-  one_less : (s : ℕ) → cond (not (slice_index_or marked s false)) 1 0
-      ≡ cond (not (slice_index_or (set marked t true) s false)) 1 0 + cond (eqb s t) 1 0
-  one_less s = search rules
+module _ (places : List Triple) where
+  -- Returns the number of transitions of the state t.
+  abbrev pub row_length : ℕ → ℕ
+  row_length t = length (row_of t places)
 
-  apart-set : (places : List Triple) → apart places marked ≡ apart places (set marked t true) + length (row_of t places)
-  apart-set places = search (rules, length-filter-sum, eqb, one_less)
+  -- If the states in a list are distinct, the sum of the numbers of their transitions is the number of the transitions
+  -- whose sources are in the list.
+  rows_sum : (xs : List ℕ) → IsDistinct eqb xs
+      → sum_by row_length xs ≡ length (filter (λ e. list_any (eqb (source_of e)) xs) places)
+  rows_sum [] once = omega (arith, length-filter-sum (λ _. false) (λ _. false) (λ _. false) (λ _. refl) places)
+  rows_sum (x ∷ xs) once =
+      let off = list_any_none (eqb x) xs (All-from_recursion _ xs (IsDistinct-head eqb x xs once)) in
+      let parts : (s : ℕ) → cond (list_any (eqb s) (x ∷ xs)) 1 0 ≡ cond (eqb s x) 1 0 + cond (list_any (eqb s) xs) 1 0 =
+      λ s. grind (arith, nat_tests, off) in
+      omega (
+        arith,
+        sum_by-cons row_length x xs,
+        rows_sum xs (IsDistinct-tail eqb x xs once),
+        length-filter-sum (λ e. list_any (eqb (source_of e)) (x ∷ xs)) (λ e. eqb (source_of e) x)
+            (λ e. list_any (eqb (source_of e)) xs) (λ e. parts (source_of e)) places,
+      )
 
--- The following lemmas are about the step in which the search reaches a state t: if t was not found before, then t is
--- marked and added to the found states. The lemmas show that t is now found, and that all states that were found before
--- are still found. The number of transitions that the search may still read stays the same.
-module _ (places : List Triple) (t : ℕ) (old new : FoundStates) (below : t < length old.marked)
-    (reaches : Reaches t old new) where
-  pub reaches_found : WasFound new t
-  reaches_found = search rules
+  -- If the states in a list are distinct, they have together at most as many transitions as there are in all.
+  rows_few : (xs : List ℕ) → IsDistinct eqb xs → sum_by row_length xs ≤ length places
+  rows_few xs once = search (rules, rows_sum, length-filter, count_by-le-length)
 
-  pub reaches_keeps : (s : ℕ) → WasFound old s → WasFound new s
-  reaches_keeps s on = search rules
+  -- If the states in a list are distinct, the number of transitions of the first i states and of the next state is at
+  -- most the number of all transitions.
+  pub rows_room : (xs : List ℕ) (i : ℕ) → IsDistinct eqb xs → i < length xs
+      → sum_by row_length (take i xs) + row_length (slice_index xs i) ≤ length places
+  rows_room xs i once h = omega (arith, rows_few xs once, sum_by_more_le row_length xs i 0 h)
 
-  pub reaches_ahead : (read : ℕ) → read ≤ length old.states → places_remaining places new read
-      ≡ places_remaining places old read
-  reaches_ahead read low = search (rules, apart-set, old.marked, drop-append-le, old.states, sum_by_push)
+  -- If the states in a list are distinct, the number of their transitions is at least the number of transitions of the
+  -- first state, and at most the number of all transitions.
+  pub rows_all : (xs : List ℕ) (i : ℕ) → IsDistinct eqb xs → length xs ≤ i → 0 < length xs
+      → (row_length (slice_index xs 0) ≤ sum_by row_length (take i xs))
+      × (sum_by row_length (take i xs) ≤ length places)
+  rows_all xs i once long some = rw (take_all i xs long) (get_or-le-sum_by row_length xs 0 0 some, rows_few xs once)
 
 -- `ReadsRow` holds while the search reads the transitions of the found state at the index i. In the list of all
 -- transitions, the transitions of this state begin at the place (index) `start`. The search has read the transitions
 -- from the place `start` up to but excluding the place k.
 pub record ReadsRow (u : Under) (s : ℕ) (first : FoundStates) (i start k : ℕ) (f : FoundStates) : Type 0 where
   pub search : FindsFrom u s f i
-  pub longer : length first.states ≤ length f.states
-  pub same : slice_index f.states i ≡ slice_index first.states i
+  pub kept : StartsWith f.states first.states
   pub taken : All (IsExplored u s f) (take (k - start) (row_of (slice_index first.states i) u.l.places))
-  pub ahead : places_remaining u.l.places f i ≡ places_remaining u.l.places first i
 
 -- `Went` holds if the search has read the transition e, and the invariant of the search (`FindsFrom`) still holds. The
 -- data of the search was `old` before e was read, and is `new` afterwards. Everything that was found before is still
 -- found.
-record Went (u : Under) (s : ℕ) (old new : FoundStates) (read : ℕ) (e : Triple) : Type 0 where
+pub record Went (u : Under) (s : ℕ) (old new : FoundStates) (read : ℕ) (e : Triple) : Type 0 where
   pub search : FindsFrom u s new read
-  pub longer : length old.states ≤ length new.states
-  pub same : (j : ℕ) → j < length old.states → slice_index new.states j ≡ slice_index old.states j
+  pub kept : StartsWith new.states old.states
   pub keeps : (e' : Triple) → IsExplored u s old e' → IsExplored u s new e'
   pub now : IsExplored u s new e
-  pub ahead : (read : ℕ) → read ≤ length old.states → places_remaining u.l.places new read
-      ≡ places_remaining u.l.places old read
 
 module _ (u : Under) (s : ℕ) (lts : IsLts u.l) (laws : Laws)
     (sources : (s : ℕ) (places : List Triple) (e : Triple) → Contains (row_of s places) e
@@ -89,20 +101,16 @@ module _ (u : Under) (s : ℕ) (lts : IsLts u.l) (laws : Laws)
   abbrev blocks : ℕ → ℕ
   blocks = slice_index u.blocks
 
+  is_triple : (x : ℕ) (e : Triple) → Contains (row_of x u.l.places) e → IsTriple (length u.l.labels) u.l.states e
+  is_triple x e in_row = All-contains (IsTriple (length u.l.labels) u.l.states) u.l.places e lts.in_range.each
+      ((sources x u.l.places e).0 in_row).0
+
   -- The following lemmas assume that inert transitions lead from the state s to the state x, and that e is an outgoing
   -- transition of x.
-  module _ (x : ℕ) (led : LeadsInertly u s x) (e : Triple) (in_row : Contains (row_of x u.l.places) e) where
-    is_triple : IsTriple (length u.l.labels) u.l.states e
-    is_triple = All-contains (IsTriple (length u.l.labels) u.l.states) u.l.places e lts.in_range.each
-        ((sources x u.l.places e).0 in_row).0
-
+  module _ (old : FoundStates) (read : ℕ) (found : FindsFrom u s old read) (x : ℕ) (led : LeadsInertly u s x)
+      (e : Triple) (in_row : Contains (row_of x u.l.places) e) where
     its_step : Step A x (text_of u.l.labels (label_of e)) (target_of e)
     its_step = (steps x (text_of u.l.labels (label_of e)) (target_of e)).1 (e, in_row, refl, refl)
-
-    -- If the transition e is not inert, its pair (the label ID and the block ID of the target) is in the signature of
-    -- s.
-    pair_shown : ¬ IsInert u (blocks s) e → HasPair Branching u.l u.blocks s (label_of e) (blocks (target_of e))
-    pair_shown other = (is_triple.label, (x, target_of e, led, its_step, refl, other))
 
     -- If the transition e is inert, inert transitions lead from s to its target.
     leads_on : IsInert u (blocks s) e → LeadsInertly u s (target_of e)
@@ -112,131 +120,69 @@ module _ (u : Under) (s : ℕ) (lts : IsLts u.l) (laws : Laws)
           inert.1 ∙ sym (stays A blocks s x led),
         )
 
-  module _ (old : FoundStates) (read : ℕ) (search : FindsFrom u s old read) (x : ℕ) (led : LeadsInertly u s x)
-      (e : Triple)
-      (in_row : Contains (row_of x u.l.places) e) where
     -- Suppose that the transition e is inert, and that the search reaches its target: if the target was not found
     -- before, it is added to the found states. Then the invariant of the search still holds after e was read (`Went`).
     goes : (new : FoundStates) → IsInert u (blocks s) e → Reaches (target_of e) old new → Went u s old new read e
     goes new inert (inl (was, is)) = grind (arith, common_steps)
     goes new inert (inr (off, is)) =
         let t = target_of e in
-        let below : t < length old.marked = omega (arith, search.size, (is_triple x led e in_row).target) in
-        let reaches : Reaches t old new = inr (off, is) in
-        let keeps : (e' : Triple) → IsExplored u s old e' → IsExplored u s new e' = λ e' was. record {
-          followed = λ i. reaches_keeps u.l.places t old new below reaches (target_of e') (was.followed i);
-          shown = λ o. subst (λ f. Contains f.pairs (pair_under u.blocks e')) (sym is) (was.shown o);
-        } in
-        let before : (j : ℕ) → j < length old.states → slice_index new.states j ≡ slice_index old.states j =
-        λ j h. ap (λ f. slice_index f.states j) is ∙ get_or_append_left old.states (t ∷ []) 0 j h in
-        let long : length new.states ≡ length old.states + 1 = ap (λ f. length f.states) is
-        ∙ length_push old.states t in
-        record {
+        let below : t < length old.marked = omega (arith, found.size, (is_triple x e in_row).target) in
+        let after : FoundStates = record old { marked = set old.marked t true; states = old.states ++ t ∷ [] } in
+        let keeps : (e' : Triple) → IsExplored u s old e' → IsExplored u s after e' = search rules in
+        subst (λ f. Went u s old f read e) (sym is) (record {
           search = record {
-            size = ap (λ f. length f.marked) is ∙ length-set old.marked t true ∙ search.size;
-            marked = subst (λ f. AreMarked f.marked f.states) (sym is) (marked_more old.marked old.states t below
-                off search.marked);
-            first = (omega (arith, long), before 0 search.first.0 ∙ search.first.1);
-            led = λ j h. elim (cases_lt j (length old.states)) [
-              | inl low ↦ subst (LeadsInertly u s) (sym (before j low)) (search.led j low)
-              | inr last ↦ subst (LeadsInertly u s)
-                  (sym (ap (λ f. slice_index f.states j) is ∙ get_or_push old.states t 0 j
-                  (omega (arith, last, h, long)))) (leads_on x led e in_row inert)
-            ];
-            few = omega (arith, long, search.few);
-            own = λ z c. search.own z (subst (λ f. Contains f.pairs z) is c);
-            taken = grind (arith, common_steps, old.states, u.l.places, before, All-weaker, keeps);
+            size = length-set old.marked t true ∙ found.size;
+            marked = marked_more old.marked old.states t below off found.marked;
+            first = grind (arith, common_steps, found.first);
+            led = λ j h. All-push (LeadsInertly u s) old.states t
+                (All-from_get_or (LeadsInertly u s) old.states 0 found.led) (leads_on inert) j 0 h;
+            few = omega (arith, length_push old.states t, found.few);
+            own = found.own;
+            taken = λ j h. rw (get_or_append_left old.states (t ∷ []) 0 j (omega (arith, h, found.few)))
+                (All-weaker (IsExplored u s old) (IsExplored u s after) keeps _ (found.taken j h));
           };
-          longer = omega (arith, long);
-          same = before;
+          kept = take_at old.states (t ∷ []) _ refl;
           keeps = keeps;
-          now = record {
-            followed = λ _. reaches_found u.l.places t old new below reaches;
-            shown = λ other. absurd (other inert);
-          };
-          ahead = reaches_ahead u.l.places t old new below reaches;
-        }
+          now = search rules;
+        })
 
     -- Suppose that the transition e is not inert, and that the search collects its pair (label ID, target block). Then
     -- the invariant of the search still holds after e was read (`Went`).
     collects : (z : ℕ × ℕ) (new : FoundStates) → ¬ IsInert u (blocks s) e → z ≡ pair_under u.blocks e →
         new ≡ record old { pairs = old.pairs ++ z ∷ [] } → Went u s old new read e
     collects z new other pair is =
-        let keeps : (e' : Triple) → IsExplored u s old e'
-        → IsExplored u s (record old { pairs = old.pairs ++ z ∷ [] }) e' =
+        let after : FoundStates = record old { pairs = old.pairs ++ z ∷ [] } in
+        let keeps : (e' : Triple) → IsExplored u s old e' → IsExplored u s after e' =
         grind (arith, common_steps, Contains-append_left, old.pairs, u.blocks) in
+        let has : HasPair Branching u.l u.blocks s z.0 z.1 = rw pair
+        ((is_triple x e in_row).label, (x, target_of e, led, its_step, refl, other)) in
         subst (λ f. Went u s old f read e) (sym is) (record {
           search = record {
-            size = search.size;
-            marked = search.marked;
-            first = search.first;
-            led = search.led;
-            few = search.few;
+            size = found.size;
+            marked = found.marked;
+            first = found.first;
+            led = found.led;
+            few = found.few;
             own = λ y c. elim (Contains-push_cases old.pairs z y c) [
-              | inl d ↦ search.own y d
-              | inr same ↦ subst (λ p. HasPair Branching u.l u.blocks s p.0 p.1) (sym pair ∙ same)
-                  (pair_shown x led e in_row other)
+              | inl d ↦ found.own y d
+              | inr same ↦ subst (λ p. HasPair Branching u.l u.blocks s p.0 p.1) same has
             ];
-            taken = λ j h. All-weaker (IsExplored u s old) (IsExplored u s (record old { pairs = old.pairs ++ z ∷ [] }))
-                keeps
-                (row_of (slice_index old.states j) u.l.places) (search.taken j h);
+            taken = λ j h. All-weaker (IsExplored u s old) (IsExplored u s after) keeps _ (found.taken j h);
           };
-          longer = omega arith;
-          same = λ j h. refl;
+          kept = starts_with_of_eq old.states old.states refl;
           keeps = keeps;
           now = record {
             followed = λ inert. absurd (other inert);
-            shown = λ _. subst (Contains (old.pairs ++ z ∷ [])) pair (Contains-push old.pairs z);
+            shown = λ _. rw (← pair) (Contains-push old.pairs z);
           };
-          ahead = λ r h. refl;
         })
 
     -- The invariant of the search still holds after the transition e was read (`Went`). This is true for an inert
     -- transition and for a transition that is not inert.
-    went : (step : RowStep) (new : FoundStates) → IsStep u (blocks s) e step → ExploresStep step old new
+    pub went : (step : RowStep) (new : FoundStates) → IsStep u (blocks s) e step → ExploresStep step old new
         → Went u s old new read e
     went (Goes t) new (inert, is) reaches = goes new inert (subst (λ t. Reaches t old new) is reaches)
     went (Shows a b) new (other, is) takes = collects (a, b) new other is takes
-
-  -- Suppose that the search has read the transitions of a found state up to but excluding the transition at the place
-  -- (index) k (`ReadsRow`). After the search has read this transition, too, `ReadsRow` holds for the place k + 1.
-  pub row_more : {first old new : FoundStates} {i start end k : ℕ} (step : RowStep) → ReadsRow u s first i start k old
-      → i < length first.states → LeadsInertly u s (slice_index first.states i)
-      → IsRow u.l.places (slice_index first.states i) start end → start ≤ k → k < end
-      → (let row = row_of (slice_index first.states i) u.l.places in
-      take ((k + 1) - start) row ≡ take (k - start) row ++ place_at u.l.places k ∷ [])
-      → IsStep u (blocks s) (place_at u.l.places k) step → ExploresStep step old new
-      → ReadsRow u s first i start (k + 1) new
-  row_more {first = first} {old = old} {new = new} {i = i} {k = k} step was more led its from below next is takes =
-      let x = slice_index first.states i in
-      let e : Triple = place_at u.l.places k in
-      let at : k < length u.l.places = omega (arith, its.within, below) in
-      let its_place = Contains-get_or u.l.places k (0, 0, 0) at in
-      let in_row = (sources x u.l.places e).1 (its_place, (its.exactly k at).1 (from, below)) in
-      let done = went old i was.search x led e in_row step new is takes in
-      let there : i < length old.states = omega (arith, more, was.longer) in
-      record {
-        search = done.search;
-        longer = omega (arith, was.longer, done.longer);
-        same = done.same i there ∙ was.same;
-        taken = subst (All (IsExplored u s new)) (sym next)
-            (All-push (IsExplored u s new) _ e (All-weaker (IsExplored u s old) _ done.keeps _ was.taken) done.now);
-        ahead = done.ahead i (omega (arith, there)) ∙ was.ahead;
-      }
-
-  -- Suppose that the search has read the transitions of the first `read` found states (`FindsFrom`), and also the
-  -- transitions of the next found state. Then `FindsFrom` holds for `read + 1`.
-  pub row_read : (f : FoundStates) (read : ℕ) → FindsFrom u s f read → read < length f.states
-      → All (IsExplored u s f) (row_of (slice_index f.states read) u.l.places) → FindsFrom u s f (read + 1)
-  row_read f read search more row = record {
-    size = search.size;
-    marked = search.marked;
-    first = search.first;
-    led = search.led;
-    few = omega (arith, more);
-    own = search.own;
-    taken = below_more _ read search.taken row;
-  }
 
   -- The following lemmas assume that the search has read the transitions of all states that it has found.
   module _ (kept : (A : System) (blocks : ℕ → ℕ) (has : ℕ → Bool) →
@@ -285,36 +231,18 @@ module _ (u : Under) (s : ℕ) (lts : IsLts u.l) (laws : Laws)
       ascending = ascending;
     }
 
--- The following lemmas are about the beginning of a search from the state s, when s is the only state that the search
--- has found.
-module _ (u : Under) (s : ℕ) (laws : Laws) (marked : List Bool) (below : s < length marked) (size : length marked
-    ≡ u.l.states) (off : IsUnmarked marked) (new : FoundStates)
-    (reaches : Reaches s (record { marked = marked; states = []; pairs = [] }) new) where
-  abbrev none : FoundStates
-  none = record { marked = marked; states = []; pairs = [] }
-
-  its : new ≡ record { marked = set marked s true; states = s ∷ []; pairs = [] }
-  its = elim reaches [ inl was ↦ absurd (off s was.0) | inr now ↦ now.1 ]
-
-  pub begun : FindsFrom u s new 0
-  begun = subst (λ f. FindsFrom u s f 0) (sym its) (record {
-    size = length-set marked s true ∙ size;
-    marked = marked_more marked [] s below (off s) (none_marked marked off);
-    first = (omega arith, refl);
-    led = search rules;
-    few = omega arith;
-    own = λ z c. absurd (omega (arith, c.1));
-    taken = λ j h. absurd (omega (arith, h));
-  })
-
-  -- At the beginning of a search, the number of transitions that the search may still read is the number of all
-  -- transitions.
-  pub ahead_first : places_remaining u.l.places new 0 ≡ length u.l.places
-  ahead_first =
-      reaches_ahead u.l.places s none new below reaches 0 (omega arith)
-      ∙ omega (
-        arith,
-        ap (λ (xs : List Triple). length xs)
-            (filter-whole (λ (e : Triple). not (slice_index_or marked (source_of e) false)) u.l.places
-            (λ k d h. ap not (false_from_ne_true _ (off _)))),
-      )
+-- Suppose that no state was marked before the search has reached the state s. Then the invariant of the search holds
+-- when the search has found s and has read no transition.
+pub begun : (u : Under) (s : ℕ) (marked : List Bool) (new : FoundStates) → Laws → s < length marked
+    → length marked ≡ u.l.states → IsUnmarked marked
+    → Reaches s (record { marked = marked; states = []; pairs = [] }) new → FindsFrom u s new 0
+begun u s marked new laws below size off (inl (was, is)) = absurd (off s was)
+begun u s marked new laws below size off (inr (now, is)) = subst (λ f. FindsFrom u s f 0) (sym is) (record {
+  size = length-set marked s true ∙ size;
+  marked = marked_more marked [] s below (off s) (none_marked marked off);
+  first = (omega arith, refl);
+  led = search rules;
+  few = omega arith;
+  own = λ z c. absurd (omega (arith, c.1));
+  taken = λ j h. absurd (omega (arith, h));
+})

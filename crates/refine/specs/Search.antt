@@ -1,10 +1,10 @@
 -- Private. Defines a search from a state along inert transitions, which are internal transitions within a block. The
 -- search finds states, and collects pairs of label ID and block ID.
-use Rattle.std.specs.Prelude.{◌≡◌, ◌⊎◌, ℕ, ◌+◌, ◌<◌, ◌≤◌, Bool, true, false, not, IsTrue, List, [], ◌∷◌, ◌++◌, length}
-use Rattle.std.specs.Prelude.{drop, slice_index, slice_set}
-use Rattle.std.specs.List.{All, Contains, filter, sum_by, slice_index_or}
+use Rattle.std.specs.Prelude.{◌≡◌, ◌⊎◌, ℕ, ◌<◌, ◌≤◌, Bool, true, false, IsTrue, List, [], ◌∷◌, ◌++◌, length}
+use Rattle.std.specs.Prelude.{slice_index, slice_set}
+use Rattle.std.specs.List.{All, Contains, slice_index_or}
 use Rattle.theory.specs.declared.relation.Relation.TheVariants.{Branching}
-use Rattle.lts.specs.Lts.{Triple, source_of, target_of, row_of}
+use Rattle.lts.specs.Lts.{Triple, target_of, row_of}
 use Rattle.inert.specs.Signed.{HasPair, pair_under}
 use Rattle.inert.specs.Steps.{Under, IsInert}
 use Rattle.inert.specs.Search.{LeadsInertly}
@@ -58,13 +58,3 @@ pub record FindsFrom (u : Under) (s : ℕ) (f : FoundStates) (read : ℕ) : Type
   pub few : read ≤ length f.states
   pub own : (z : ℕ × ℕ) → Contains f.pairs z → HasPair Branching u.l u.blocks s z.0 z.1
   pub taken : (j : ℕ) → j < read → All (IsExplored u s f) (row_of (slice_index f.states j) u.l.places)
-
--- Returns the number of transitions whose source has not been found by the search.
-abbrev pub apart : List Triple → List Bool → ℕ
-apart places marked = length (filter (λ e. not (slice_index_or marked (source_of e) false)) places)
-
--- Returns the number of transitions that the search may still read after it has read the transitions of the first
--- `read` found states. These are the transitions of all other states, including the states that the search has not
--- found.
-abbrev pub places_remaining : List Triple → FoundStates → ℕ → ℕ
-places_remaining places f read = apart places f.marked + sum_by (λ t. length (row_of t places)) (drop read f.states)

@@ -10,9 +10,9 @@ ghost use Rattle.refine.specs.Signed.{signature_at};
 
 use crate::buffer::SignatureBuffer;
 use crate::sense::{Marks, Sense};
-use lts::{Lts, Memory, Meter, visit_rest};
+use lts::{Lts, Memory, Meter};
 use partition::{Blocks, Partition, renumber};
-use refine_core::SignedBlocks;
+use refine_core::sign_all;
 use signatures::{EMPTY, Interner};
 use std::alloc::Global;
 use std::marker::Model;
@@ -93,13 +93,7 @@ impl Signatures {
         ensures signatures { length self.new ≡ length self.old }
     {
         let blocks = copied(self.alloc, p)?;
-        let round = SignedBlocks::new(self.alloc, blocks)?;
-        let round = round.discard_signatures()?;
-        let before = m.visits();
-        let signed = S::sign(l, round, m)?;
-        visit_rest(l, before, m);
-        signed.invariants();
-        let (interned, signature_ids) = signed.into_signatures();
+        let (interned, signature_ids) = sign_all::<S, M>(self.alloc, l, blocks, m)?;
         let whole = SignatureBuffer::new(self.alloc, &interned)?;
         self.interned = whole;
         self.signature_ids = signature_ids;

@@ -1,13 +1,14 @@
 //! Computes the branching signature of one state by a search along inert transitions, which are internal transitions
 //! within a block. The search reads the transitions of each state that it finds exactly once.
 ghost use Rattle.std.specs.Prelude.{◌≡◌, ℕ, ◌+◌, ◌<◌, ◌≤◌, [], length, slice_index, IfOk, OnOk};
+ghost use Rattle.std.specs.Io.{StartsWith};
 ghost use Rattle.theory.specs.declared.relation.Relation.TheVariants.{Branching};
 ghost use Rattle.lts.specs.Meter.{HasRoomFor, Visits};
 ghost use Rattle.lts.specs.Lts.{row_of};
 ghost use Rattle.inert.specs.Signed.{IsSignature};
 ghost use Rattle.inert.specs.declared.lens.Step.TheVariants.{Inert};
 ghost use Rattle.refine_core.specs.Index.{AreMarked, IsUnmarked};
-ghost use Rattle.refine.specs.Search.{FoundStates, IsClear, Reaches, ExploresStep, FindsFrom, places_remaining};
+ghost use Rattle.refine.specs.Search.{IsClear, Reaches, ExploresStep, FindsFrom};
 
 use inert::{Lens, Step};
 use lts::{Lts, Memory, Meter};
@@ -90,6 +91,7 @@ impl Search {
 
     /// Finds the states to which inert transitions lead from `s`, including `s` itself. Collects the pairs (label ID,
     /// block ID of the target) of all transitions of these states that are not inert.
+    #[tactic(auto, using(crate::proofs::Searching::rows_room, crate::proofs::Searching::rows_all))]
     fn find<M: Meter>(&mut self, lens: &Lens<M>, s: u32, m: &mut M) -> Result<(), Memory>
         requires visited { lens.now.visited ≡ [] }
         requires state { s < lens.now.l.states }
@@ -123,14 +125,9 @@ impl Search {
         requires room { HasRoomFor (M.counted m.old) 0
             (length (row_of (slice_index self.old.states i) lens.now.l.places)) }
         ensures found { OnOk result (FindsFrom lens.now s self.new (i + 1)) }
-        ensures longer { OnOk result (length self.old.states ≤ length self.new.states) }
-        ensures ahead { let left = places_remaining lens.now.l.places in
-            OnOk result (left self.new i ≡ left self.old i) }
-        ensures same { let state = λ (f : FoundStates). slice_index f.states i in
-            OnOk result (state self.new ≡ state self.old) }
+        ensures kept { OnOk result (StartsWith self.new.states self.old.states) }
         ensures size { length self.new.marked ≡ length self.old.marked }
-        ensures visits { let t = slice_index self.old.states i in
-            let row = length (row_of t lens.now.l.places) in
+        ensures visits { let row = length (row_of (slice_index self.old.states i) lens.now.l.places) in
             Visits M.counted m.old m.new result row row }
     {
         lts::rows_follow();
@@ -156,10 +153,7 @@ impl Search {
     {
         match step {
             Step::Inert(t) => self.reach(t),
-            Step::Shows(label, block) => {
-                self.pairs.push((label, block))?;
-                Ok(())
-            }
+            Step::Shows(label, block) => Ok(self.pairs.push((label, block))?),
         }
     }
 

@@ -106,8 +106,7 @@ impl Sense for Strong {
         m: &mut M,
     ) -> Result<(), Memory> {
         sign(l, p.blocks(), s, &mut marks.search.pairs, m)?;
-        out.extend_from_slice(&marks.search.pairs)?;
-        Ok(())
+        Ok(out.extend_from_slice(&marks.search.pairs)?)
     }
 }
 
@@ -148,7 +147,6 @@ impl Sense for Branching {
         m: &mut M,
     ) -> Result<(), Memory> {
         marks.search.sign(l, p.blocks(), s, m)?;
-        out.extend_from_slice(&marks.search.pairs)?;
-        Ok(())
+        Ok(out.extend_from_slice(&marks.search.pairs)?)
     }
 }

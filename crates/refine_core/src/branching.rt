@@ -22,6 +22,10 @@ impl Signing for Branching {
         round.begin_index(l, Reach::Back, m)
     }
 
+    fn discard_cached(round: SignedBlocks) -> Result<SignedBlocks, Memory> {
+        round.discard_signatures()
+    }
+
     fn sign<M: Meter>(l: &Lts<M>, round: SignedBlocks, m: &mut M) -> Result<SignedBlocks, Memory> {
         lts::rows_are_steps();
         l.invariants();

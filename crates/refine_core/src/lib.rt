@@ -86,5 +86,5 @@ pub use branching::Branching;
 pub use partition::Partition;
 pub use refinement::{refine, refine_blocks};
 pub use signed_blocks::SignedBlocks;
-pub use signing::Signing;
+pub use signing::{Signing, sign_all};
 pub use strong::{NewBlocks, Strong, read};

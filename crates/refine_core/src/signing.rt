@@ -1,15 +1,23 @@
 //! The first part of a round of refinement, which computes the signatures of the active states (the states that the
 //! round processes). The second part of the round is the split.
-ghost use Rattle.std.specs.Prelude.{◌≡◌, List, ℕ, Option, [], length, IfOk};
+ghost use Rattle.std.specs.Prelude.{◌≡◌, ◌<◌, List, ℕ, Option, [], length, IfOk};
 ghost use Rattle.theory.specs.declared.relation.Relation.{Relation};
+ghost use Rattle.theory.specs.declared.relation.Relation.TheVariants.{Branching as branching};
 ghost use Rattle.lts.specs.Meter.{HasRoomFor, Costs, Visits};
 ghost use Rattle.lts.specs.Visited.{AreVisited, remaining_of};
+ghost use Rattle.signatures.specs.Lists.{AreIds};
+ghost use Rattle.partition.specs.Blocks.{IsMember};
+ghost use Rattle.inert.specs.Signed.{IsSignature};
+ghost use Rattle.refine_core.specs.Signatures.{HasNoSignatures, list_of};
 ghost use Rattle.refine_core.specs.Index.{HasVisited};
 ghost use Rattle.refine_core.specs.IndexState.{Awaits, IsBegun, IsReadyToSign, SignsEach, IsSignedRound};
 ghost use Rattle.refine_core.specs.declared.signed_blocks.IndexState.TheVariants.{Absent};
 
 use crate::signed_blocks::{IndexState, SignedBlocks};
 use lts::{Lts, Memory, Meter, visit_rest};
+use partition::Blocks;
+use signatures::Interner;
+use std::alloc::Global;
 
 /// A relation for which rounds can compute signatures. The constant `relation` names this relation. The crate `theory`
 /// defines bisimulation, signatures and splits for each relation, and proves the theorems on which refinement is based.
@@ -34,6 +42,13 @@ pub trait Signing {
         // Always
         ensures cost { Costs (M.counted m.old) (M.counted m.new) 0 0 (length l.now.places) };
 
+    /// Discards the signatures that are cached from round to round. Does nothing for strong bisimilarity, because no
+    /// strong signature is cached.
+    fn discard_cached(round: SignedBlocks) -> Result<SignedBlocks, Memory>
+        ensures same { IfOk result (λ r. (r.blocks ≡ round.blocks) × (r.visited ≡ round.visited)) }
+        ensures discarded { IfOk result (λ r. relation ≡ branching
+            → HasNoSignatures r.blocks.block_ids r.signatures r.cached) };
+
     /// Computes the signature of each active state (each state that the round processes). A visit is a counted read of
     /// a transition. If a transition was already visited in this round, reading it again is not counted.
     fn sign<M: Meter>(l: &Lts<M>, round: SignedBlocks, m: &mut M) -> Result<SignedBlocks, Memory>
@@ -53,6 +68,7 @@ pub trait Signing {
 /// Finds the states that the round processes, and computes their signatures. The split then uses these signatures to
 /// separate states of the same block. The number of visits (counted reads of transitions) equals the number of
 /// transitions. If fewer visits are needed, the function makes further visits and ignores their results.
+#[tactic(auto, using(lts::proofs::CallerLemmas::left_counts))]
 pub(crate) fn sign_each<S: Signing, M: Meter>(
     l: &Lts<M>,
     round: SignedBlocks,
@@ -70,6 +86,39 @@ pub(crate) fn sign_each<S: Signing, M: Meter>(
     let signed = S::sign(l, searched, m)?;
     visit_rest(l, before, m);
     Ok(signed)
+}
+
+/// Computes the signature of each state with respect to the given blocks, as if no round had run. All states must be
+/// active (processed by the round), and all blocks must count as new (`first_new` is 0). Returns the interned
+/// signatures and, for each state, the ID of its signature. The number of visits (counted reads of transitions) equals
+/// the number of transitions.
+#[tactic(auto, using(lts::proofs::CallerLemmas::left_none))]
+pub fn sign_all<S: Signing, M: Meter>(
+    alloc: Global,
+    l: &Lts<M>,
+    blocks: Blocks,
+    m: &mut M,
+) -> Result<(Interner, Vec<u32>), Memory>
+    requires states { length blocks.block_ids ≡ l.now.states }
+    requires active { (s : ℕ) → s < l.now.states → IsMember blocks.active s }
+    requires new { blocks.first_new ≡ 0 }
+    requires room { HasRoomFor (M.counted m.old) 0 (length l.now.places) }
+
+    // On success
+    ensures states { IfOk result (λ r. length r.1.items ≡ l.now.states) }
+    ensures ids { IfOk result (λ r. AreIds r.0 r.1.items) }
+    ensures signed { IfOk result (λ r. (s : ℕ) → s < l.now.states
+        → IsSignature S.relation l.now blocks.block_ids s (list_of r.0 r.1.items s)) }
+
+    // Always
+    ensures visits { let n = length l.now.places in Visits M.counted m.old m.new result n n }
+{
+    let start = m.visits();
+    let round = S::discard_cached(SignedBlocks::new(alloc, blocks)?)?;
+    let signed = S::sign(l, round, m)?;
+    visit_rest(l, start, m);
+    signed.invariants();
+    Ok(signed.into_signatures())
 }
 
 /// Begins a round. If there is no predecessor index, the function calls `Signing::begin`. If a search of the index is

@@ -32,6 +32,10 @@ impl Signing for Strong {
         round.begin_index(l, Reach::Before, m)
     }
 
+    fn discard_cached(round: SignedBlocks) -> Result<SignedBlocks, Memory> {
+        Ok(round)
+    }
+
     fn sign<M: Meter>(l: &Lts<M>, round: SignedBlocks, m: &mut M) -> Result<SignedBlocks, Memory> {
         l.invariants();
         let mut round = round;

@@ -1,8 +1,6 @@
 use Rattle.std.proofs.Common.{◌∙◌, arith, rules}
 use Rattle.std.proofs.lemmas.Result.{IfOk-weaker}
-use Rattle.refine.specs.Signed.{signature_at}
-use Rattle.refine_core.proofs.CallerLemmas.{begun_up_to, on_ok_from, on_err_from}
-use Rattle.refine.proofs.Filling.{signed_is_split}
+use Rattle.refine_core.proofs.CallerLemmas.{Labelled, equal_lists, begun_up_to, on_ok_from, on_err_from}
 use Rattle.refine.proofs.one_round.round.Goals as goal
 
 pub returns-in_err-fill-clause-err : goal.returns-in_err-fill-clause-err
@@ -15,13 +13,14 @@ returns-clause-states g c = IfOk-weaker c.split.result _ _ (λ q size. size ∙ 
 pub returns-clause-split : goal.returns-clause-split
 returns-clause-split g c =
     let l = c.args.l.now in
-    let size = c.requires.states in
-    IfOk-weaker c.split.result _ _
-    (λ q parted.
-    signed_is_split g.S.Signing.relation l (λ s a t. c.rows_are_steps.ensures.numbered l s a t c.invariants.ensures)
-    c.args.p.now (signature_at c.fill.new.self) q
-    c.in_ok-fill.ensures.signed (λ s t ls lt. parted s t (omega (arith, ls, size)) (omega (arith, lt, size))))
-    c.split.ensures.blocks
+    let signed = c.in_ok-fill.ensures.signed in
+    IfOk-weaker c.split.result _ _ (λ q parted s t ls lt.
+    let labelled : Labelled l = λ s a t. c.rows_are_steps.ensures.numbered l s a t c.invariants.ensures in
+    let same = equal_lists g.S.Signing.relation l labelled c.args.p.now s t _ _ (signed s ls) (signed t lt) in
+    let both = parted s t (omega (arith, ls, c.requires.states)) (omega (arith, lt, c.requires.states)) in (
+      λ e. let h = both.0 e in (h.0, same.0 h.1),
+      λ h. both.1 (h.0, same.1 h.1),
+    )) c.split.ensures.blocks
 
 pub returns-clause-costs : goal.returns-clause-costs
 returns-clause-costs g c = on_ok_from c.split.result (omega (arith, c.start_round.ensures, c.in_ok-fill.ensures.visits))

@@ -1,10 +1,14 @@
-use Rattle.std.proofs.Common.{◌≡◌, ℕ, ◌∙◌, ◌-◌, ◌≤◌, List, [], slice_index, All, ap, sym, subst, arith, rules}
-use Rattle.std.proofs.lemmas.List.{get_or_read, take_all}
+use Rattle.std.proofs.Common.{◌≡◌, ℕ, ◌∙◌, ◌+◌, ◌≤◌, ◌<◌, List, [], length, slice_index, All, ap, sym, subst, arith}
+use Rattle.std.proofs.Common.{rules}
+use Rattle.std.proofs.Transfers.{starts_with_length, starts_with_trans}
+use Rattle.std.proofs.lemmas.List.{get_or_read, get_or-take, take_all}
+use Rattle.std.proofs.lemmas.List.Elements.{All-push, All-weaker, Contains-get_or}
+use borrow.Author.Count.{below_more}
 use Rattle.lts.specs.Lts.{place_at, row_of, IsRow}
 use Rattle.lts.specs.Visited.{price}
 use Rattle.inert.specs.Steps.{IsStep}
 use Rattle.refine.specs.Search.{IsExplored}
-use Rattle.refine.proofs.Searching.{row_more, row_read}
+use Rattle.refine.proofs.Searching.{went}
 use Rattle.refine.proofs.search.Search.read.Given.{Over}
 use Rattle.refine.proofs.search.Search.read.Goals as goal
 use Rattle.refine.proofs.search.Search.read.Goals.{After-row-start}
@@ -30,18 +34,29 @@ step-step-requires-clause-room g c =
 pub loop-k-preserved : goal.loop-k-preserved
 loop-k-preserved g c =
     let u = c.args.lens.now in
+    let s = c.args.s in
     let k = c.loop-k.k in
+    let e = place_at u.l.places k in
     let its = row g (goal.at.loop-k-preserved g c).After-row-start in
+    let was = c.loop-k.invariant.row in
     let from : c.row-start.result.0 ≤ k = omega (arith, c.loop-k.auto.k) in
-    let next = c.rows_follow.ensures.inside u.l.places _ c.row-start.result.0 _ k its from c.loop-k-test.true in
-    let is_step =
-    subst (λ xs. IsStep u (slice_index xs c.args.s) (place_at u.l.places k) c.step-step.result) c.blocks-2.ensures
-    c.step-step.ensures.step in
+    let at : k < length u.l.places = omega (arith, its.within, c.loop-k-test.true) in
+    let in_row = (c.rows_are_steps.ensures.sources _ u.l.places e).1
+    (Contains-get_or u.l.places k (0, 0, 0) at, (its.exactly k at).1 (from, c.loop-k-test.true)) in
+    let done = went u s c.invariants.ensures.lts c.invariants.ensures.laws c.rows_are_steps.ensures.sources
+    (c.rows_are_steps.ensures.steps u.l) c.inert_steps_stay.ensures.block _ c.args.i was.search _
+    (c.requires.found.led c.args.i c.requires.more) e in_row c.step-step.result c.explore.new.self
+    (subst (λ xs. IsStep u (slice_index xs s) e c.step-step.result) c.blocks-2.ensures c.step-step.ensures.step)
+    c.in_ok-explore.ensures.takes in
     record {
-      row = row_more u c.args.s c.invariants.ensures.lts c.invariants.ensures.laws c.rows_are_steps.ensures.sources
-          (c.rows_are_steps.ensures.steps u.l) c.inert_steps_stay.ensures.block _ c.loop-k.invariant.row c.requires.more
-          (c.requires.found.led c.args.i c.requires.more) its from c.loop-k-test.true next is_step
-          c.in_ok-explore.ensures.takes;
+      row = record {
+        search = done.search;
+        kept = starts_with_trans _ _ _ done.kept was.kept;
+        taken = subst (All (IsExplored u s c.explore.new.self))
+            (sym (c.rows_follow.ensures.inside u.l.places _ c.row-start.result.0 _ k its from c.loop-k-test.true))
+            (All-push (IsExplored u s c.explore.new.self) _ e
+            (All-weaker (IsExplored u s c.loop-k.self) _ done.keeps _ was.taken) done.now);
+      };
       size = c.explore.ensures.size ∙ c.loop-k.invariant.size;
       cost = search (rules, one_visit c.requires.visited k);
     }
@@ -49,15 +64,14 @@ loop-k-preserved g c =
 pub returns-clause-found : goal.returns-clause-found
 returns-clause-found g c =
     let u = c.args.lens.now in
-    let s = c.args.s in
+    let i = c.args.i in
     let f = c.loop-k.self in
-    let inv = c.loop-k.invariant.row in
+    let was = c.loop-k.invariant.row in
     let its = row g (goal.at.returns-clause-found g c).After-row-start in
-    let xs = row_of (slice_index c.args.self.now.states c.args.i) u.l.places in
-    let whole : All (IsExplored u s f) xs =
-    subst (All (IsExplored u s f)) (take_all (c.loop-k.k - c.row-start.result.0) xs
-    (omega (arith, its.count, c.loop-k-test.false))) inv.taken in
-    row_read u s c.invariants.ensures.lts c.invariants.ensures.laws c.rows_are_steps.ensures.sources
-    (c.rows_are_steps.ensures.steps u.l) c.inert_steps_stay.ensures.block f c.args.i inv.search
-    (omega (arith, c.requires.more, inv.longer))
-    (subst (λ x. All (IsExplored u s f) (row_of x u.l.places)) (sym inv.same) whole)
+    let same = sym (ap (λ xs. slice_index xs i) was.kept) ∙ get_or-take _ f.states i 0 c.requires.more in
+    let few : i + 1 ≤ length f.states = omega (arith, c.requires.more, starts_with_length _ _ was.kept) in
+    let row = subst (λ t. All (IsExplored u c.args.s f) (row_of t u.l.places)) same
+    (subst (All (IsExplored u c.args.s f)) (take_all _ _ (omega (arith, its.count, c.loop-k-test.false))) was.taken) in
+    let taken : (j : ℕ) → j < i + 1 → All (IsExplored u c.args.s f) (row_of (slice_index f.states j) u.l.places) =
+    below_more _ i was.search.taken row in
+    search (rules, was.search, few, taken)
