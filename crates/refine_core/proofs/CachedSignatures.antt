@@ -1,7 +1,7 @@
 -- Proofs about the signatures that are cached from round to round for branching bisimilarity. If the cached signatures
 -- are correct before a round, they are correct after the round.
-use Rattle.std.proofs.Common.{rules, ◌≡◌, ◌⊎◌, ◌↔◌, ◌∙◌, ℕ, ◌<◌, List, [], length, slice_index, Option, None}
-use Rattle.std.proofs.Common.{ap, sym, subst, refl, inl, inr, arith}
+use Rattle.std.proofs.Common.{rules, ◌≡◌, ◌⊎◌, ◌↔◌, ◌∙◌, ℕ, ◌<◌, List, [], length, slice_index, Option, None, Some}
+use Rattle.std.proofs.Common.{ap, refl, inl, inr, arith}
 use Rattle.std.proofs.lemmas.Grind.{common_steps}
 use Rattle.std.proofs.Math.Logic.{⊎_map}
 use Rattle.std.proofs.lemmas.List.{get_or_default}
@@ -9,21 +9,21 @@ use Rattle.theory.specs.System.{IsSystem}
 use Rattle.theory.specs.declared.relation.Relation.{Relation}
 use Rattle.theory.specs.declared.relation.Relation.TheVariants.{Strong, Branching}
 use Rattle.theory.specs.Unaffected.{HasEmptySignature}
-use Rattle.lts.specs.Lts.{Grouped, system_of}
+use Rattle.lts.specs.Labels.{text_of}
+use Rattle.lts.specs.Lts.{Grouped, row_of, system_of}
 use Rattle.signatures.specs.Lists.{AreLists, AreIds, Grow, list_at, pair_cmp}
 use Rattle.signatures.proofs.CallerLemmas.{rising_none}
 use Rattle.partition.specs.Splitting.{IsSingleton}
-use Rattle.partition.specs.Blocks.{AreActive, IsMember, InactiveHaveNone}
+use Rattle.partition.specs.Blocks.{RoundBlocks, AreActive, IsMember, InactiveHaveNone}
 use Rattle.inert.specs.Signed.{AreCachedBeside, IsSignature, IsIdIfChanged}
 use Rattle.refine_core.specs.Signatures.{Signed, HasNoSignatures, list_of}
-use Rattle.refine_core.specs.IndexState.{MayBuildIndex, IsReadyToSign, AreAllActive, SignsEach}
+use Rattle.refine_core.specs.IndexState.{MayBuildIndex, IsReadyToSign, AreAllActive, OthersKeepSignatures, SignsEach}
 use Rattle.refine_core.specs.Shown.{Was, IsAsBefore, IsSplitSignature}
 use Rattle.refine_core.specs.Cached.{CachesIds, IsListOf}
 use Rattle.refine_core.specs.declared.predecessors.Reach.TheVariants.{Back}
 use Rattle.refine_core.proofs.EqualLists.{Labelled, equal_represented, label_id_of, was_label_id}
 use Rattle.refine_core.proofs.ActiveStates.{StepsAreRow, no_step}
 use Rattle.refine_core.proofs.EnoughActive.{empty_was, row_shows}
-use Rattle.refine_core.proofs.Showing.{split_signature_each, not_both}
 
 -- Suppose that only the empty signature is interned, and that its ID is cached for each state. Suppose also that each
 -- state is active (processed by the round), is in a singleton block, or has an empty signature. For strong
@@ -31,9 +31,7 @@ use Rattle.refine_core.proofs.Showing.{split_signature_each, not_both}
 -- for computing signatures, as if no round had run (`IsReadyToSign`).
 pub ready_discarded : (rel : Relation) (l : Grouped) (r : Signed) → length r.blocks.block_ids ≡ l.states
     → HasNoSignatures r.blocks.block_ids r.signatures r.cached → (rel ≡ Strong → r.blocks.first_new ≡ 0)
-    → ((s : ℕ) → s < l.states → IsMember r.blocks.active s ⊎ IsSingleton r.blocks.block_ids s
-    ⊎ IsAsBefore rel l None r.blocks.block_ids s)
-    → IsReadyToSign rel l None r
+    → OthersKeepSignatures rel l None r.blocks → IsReadyToSign rel l None r
 ready_discarded rel l r size discarded first others = record {
   split = tt;
   others = others;
@@ -48,13 +46,22 @@ ready_discarded rel l r size discarded first others = record {
   empty = λ branching none. discarded.empty;
 }
 
+-- If a state has no transition, then its signature is empty for any blocks.
+empty_row : (rel : Relation) (l : Grouped) (s : ℕ) → StepsAreRow l s → row_of s l.places ≡ [] → (old : Option (List ℕ))
+    (a : List ℕ) (b : ℕ) → ¬ Was rel l old s a b
+empty_row rel l s steps empty None a b was = was
+empty_row Strong l s steps empty (Some old) a b was = no_step l s steps empty a was.0 was.1
+empty_row Branching l s steps empty (Some old) a b was =
+    row_shows l (slice_index old) s (no_step l s steps empty) a b was
+
 -- Suppose that each state is active (processed by the round), is in a singleton block, or has no transition. Then each
--- state that is neither active nor in a singleton block has an empty branching signature. This is also the signature
--- that a state is taken to have before the first round.
-pub all_active_as_before : (l : Grouped) → ((s : ℕ) → StepsAreRow l s) → (of active : List ℕ) → AreAllActive l of active
-    → (s : ℕ) → s < l.states → IsMember active s ⊎ IsSingleton of s ⊎ IsAsBefore Branching l None of s
-all_active_as_before l steps of active all s h = ⊎_map (λ one. one) (⊎_map (λ alone. alone) (λ empty a b.
-    (row_shows l (slice_index of) s (no_step l s (steps s) empty) a b, λ none. absurd none))) (all s h)
+-- state that is neither active nor in a singleton block has the same signature as in the last round, namely the empty
+-- signature.
+pub all_active_as_before : (rel : Relation) (l : Grouped) → ((s : ℕ) → StepsAreRow l s) → (old : Option (List ℕ))
+    (p : RoundBlocks) → AreAllActive l p.block_ids p.active → OthersKeepSignatures rel l old p
+all_active_as_before rel l steps old p all s h = ⊎_map (λ one. one) (⊎_map (λ alone. alone) (λ empty a b.
+    let none = empty_row rel l s (steps s) empty in
+    (λ can. absurd (none (Some p.block_ids) a b can), λ was. absurd (none old a b was)))) (all s h)
 
 -- Suppose that only the empty signature is interned, and that its ID is cached for each state. Then this is still true
 -- after the step in which the predecessor index may be built.
@@ -84,10 +91,7 @@ module _ (l : Grouped) (labelled : Labelled l) (sys : IsSystem (system_of l)) (o
     | inl one ↦ inl one
     | inr (inl alone) ↦ inr (inl alone)
     | inr (inr same) ↦ inr (⊎_map (λ alone. alone) (λ list. record {
-      exactly = λ k b. (
-        λ c. let x = (list.1 k b).0 c in (x.0, (same _ b).1 x.1),
-        λ x. (list.1 k b).1 (x.0, (same _ b).0 x.1),
-      );
+      exactly = λ k b. grind (arith, list.1 k b, same (text_of l.labels k) b);
       ascending = list.0;
     }) (keeps.each s h))
   ]
@@ -163,23 +167,15 @@ module _ (l : Grouped) (labelled : Labelled l) (sys : IsSystem (system_of l)) (o
     cached_now s h = grind (arith, common_steps, still s, active_or_cached s h, signed s, same_list s h)
 
     -- The split signature of a state is empty if its signature has not changed since the last round, and otherwise it
-    -- is the new signature. Suppose that the empty signature (ID 0) was cached for an active state, which is a state
-    -- that the round processes. Then the split signature of this state equals its new signature.
-    first_shown : (s : ℕ) → IsMember active s → slice_index r.cached s ≡ 0
-        → IsSignature Branching l of s (list_of signatures signature_ids s)
-    first_shown s one zero = grind (arith, common_steps, changed s one, signed s one)
-
-    -- The split signature of a state is empty if its signature has not changed since the last round, and otherwise it
     -- is the new signature. For each state outside singleton blocks, `signature_ids` has the ID of its split signature.
     -- The new signatures of all states are cached for the next round (`SignsEach`).
     pub branching_signs : SignsEach Branching l old
         (record r { signatures = signatures; cached = cached; signature_ids = signature_ids })
     branching_signs = record {
       split = ready.split;
-      each = split_signature_each Branching l old of active signatures signature_ids are.first have none (λ s one.
-          let h : s < l.states = omega (arith, rises.below one.0 one.1, one.2) in
-          ⊎_map (λ alone. alone) (split_id s h one) (keeps.each s h)) ready.others;
-      first = λ none s one. first_shown s one (ready.empty refl none s);
+      each = λ s h. let given = λ (one : IsMember active s). ⊎_map (λ alone. alone) (split_id s h one) (keeps.each s h) in
+          grind (arith, ready.others s h, none s, given, have, are.first);
+      first = λ none s one. grind (arith, common_steps, changed s one, signed s one, ready.empty refl none s);
       cached = λ branching. record {
         states = states;
         signature_ids = each;

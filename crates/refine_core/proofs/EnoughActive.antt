@@ -1,19 +1,23 @@
 -- Proofs that the search for branching bisimilarity finds all states that the round has to process. If the search does
 -- not find a state, the signature of this state is the same as in the last round.
-use Rattle.std.proofs.Common.{◌≡◌, ◌⊎◌, ◌∙◌, ℕ, ◌<◌, List, [], ◌∷◌, length, slice_index, Option, None, Some}
+use Rattle.std.proofs.Common.{◌≡◌, ◌∙◌, ℕ, ◌<◌, List, [], ◌∷◌, length, slice_index, Option, None, Some}
 use Rattle.std.proofs.Common.{sym, ap, subst, inl, inr, refl, arith}
 use Rattle.std.proofs.Math.Logic.{⊎_map}
 use Rattle.theory.specs.System.{IsSystem, Step, Along, internal}
-use Rattle.theory.specs.declared.relation.Relation.TheVariants.{Branching}
+use Rattle.theory.specs.declared.relation.Relation.{Relation}
+use Rattle.theory.specs.declared.relation.Relation.TheVariants.{Strong, Branching}
 use Rattle.theory.specs.Blocks.{Inert}
 use Rattle.theory.specs.Unaffected.{Refines, MentionsOnlyOld, HasEmptySignature, AreEnoughToProcess}
 use Rattle.theory.proofs.CallerLemmas.{step_below, empty_before, still_stays, reach_found}
-use Rattle.lts.specs.Lts.{Grouped, system_of}
+use Rattle.lts.specs.Lts.{Grouped, IsLts, system_of}
 use Rattle.partition.specs.Splitting.{IsSingleton}
 use Rattle.partition.specs.Blocks.{RoundBlocks, IsMember}
 use Rattle.refine_core.specs.Index.{SearchIsComplete, IsFoundOrSingleton, reach_of}
 use Rattle.refine_core.specs.Shown.{Was, IsAsBefore, Follows, WasSplit}
+use Rattle.refine_core.specs.IndexState.{OthersKeepSignatures}
 use Rattle.refine_core.proofs.ActiveStates.{step_at}
+use Rattle.refine_core.proofs.Indexing.{search_unaffected}
+use Rattle.refine_core.proofs.Showing.{unaffected_as_before}
 
 -- Suppose that this round is not the first round. If two states share a block now, then they also shared a block in the
 -- last round.
@@ -42,7 +46,7 @@ old_blocks_as_before l sys (Some old) of low follows s ls still a b =
 
 -- In the following lemmas, the record q has the blocks and the active states of a round, which are the states that the
 -- round processes.
-module _ (l : Grouped) (sys : IsSystem (system_of l)) (q : RoundBlocks) (size : length q.block_ids ≡ l.states) where
+module _ (l : Grouped) (lts : IsLts l) (q : RoundBlocks) (size : length q.block_ids ≡ l.states) where
   only : (s : ℕ) → IsSingleton q.block_ids s → (t : ℕ) → t < l.states → slice_index q.block_ids t
       ≡ slice_index q.block_ids s → t ≡ s
   only s alone t h e = alone t (omega (arith, h, size)) e
@@ -55,7 +59,7 @@ module _ (l : Grouped) (sys : IsSystem (system_of l)) (q : RoundBlocks) (size : 
     new = λ t h new. ⊎_map (λ one. one) (only t) ((finds.new t (omega (arith, h, size)) new).1 refl);
     sources = λ s a t step new.
         let k = step_at l s a t step in
-        let below = step_below (system_of l) sys s a t step in
+        let below = step_below (system_of l) lts.system s a t step in
         let found = (finds.new t (omega (arith, below, size)) new).0 k.place k.below k.target in
         ⊎_map (λ one. one) (only s) (subst (IsFoundOrSingleton q.block_ids q.active) k.source found);
     inner = λ s t inert old one.
@@ -65,22 +69,22 @@ module _ (l : Grouped) (sys : IsSystem (system_of l)) (q : RoundBlocks) (size : 
         (finds.back refl t one old k.place k.below k.target k.label same)) [
           | inl found ↦ found
           | inr alone ↦
-              let (_, below) = step_below (system_of l) sys s internal t inert.0 in
+              let (_, below) = step_below (system_of l) lts.system s internal t inert.0 in
               subst (IsMember q.active) (only s alone t below inert.1) one
         ];
   }
 
-  -- Suppose that the search for branching bisimilarity has found all states that it has to find (`SearchIsComplete`).
-  -- Then each state was found, is in a singleton block, or has the same branching signature as in the last round.
-  pub found_all : (old : Option (List ℕ)) → Follows Branching l old q.block_ids q.first_new
-      → SearchIsComplete (reach_of Branching) l q q.active
-      → (s : ℕ) → s < l.states → IsMember q.active s ⊎ IsSingleton q.block_ids s
-      ⊎ IsAsBefore Branching l old q.block_ids s
-  found_all old follows finds s h =
-      ⊎_map (λ one. one)
-      (⊎_map (λ only t k e. only t (omega (arith, k, size)) e)
-      (old_blocks_as_before l sys old q.block_ids q.first_new follows s h))
-      (reach_found (system_of l) sys (slice_index q.block_ids) q.first_new (IsMember q.active) (found_enough finds) s h)
+  -- Suppose that the search has found all states that it has to find (`SearchIsComplete`), and that these are the
+  -- active states. Then each state is active, is in a singleton block, or has the same signature as in the last round.
+  pub found_all : (rel : Relation) (old : Option (List ℕ)) → Follows rel l old q.block_ids q.first_new
+      → SearchIsComplete (reach_of rel) l q q.active → OthersKeepSignatures rel l old q
+  found_all Strong old follows finds s h = ⊎_map (λ one. one) (⊎_map (λ alone. alone)
+      (unaffected_as_before l lts.system old q.block_ids q.first_new follows s))
+      (search_unaffected l lts q size finds s h)
+  found_all Branching old follows finds s h = ⊎_map (λ one. one) (⊎_map (λ only t k e. only t (omega (arith, k, size)) e)
+      (old_blocks_as_before l lts.system old q.block_ids q.first_new follows s h))
+      (reach_found (system_of l) lts.system (slice_index q.block_ids) q.first_new (IsMember q.active)
+      (found_enough finds) s h)
 
 -- If there is no step from a state, then the branching signature of this state is empty.
 pub row_shows : (l : Grouped) (blocks : ℕ → ℕ) (s : ℕ) → ((a : List ℕ) (t : ℕ) → Step (system_of l) s a t → ⊥)

@@ -6,9 +6,10 @@ use Rattle.std.proofs.Common.{sym, subst, refl, inl, inr, arith}
 use Rattle.std.proofs.lemmas.Grind.{common_steps}
 use Rattle.theory.specs.System.{IsSystem, Step}
 use Rattle.theory.specs.declared.relation.Relation.{Relation}
-use Rattle.theory.specs.declared.relation.Relation.TheVariants.{Strong, Branching}
+use Rattle.theory.specs.declared.relation.Relation.TheVariants.{Strong}
 use Rattle.theory.specs.Blocks.{SameSignature, Split}
 use Rattle.theory.proofs.CallerLemmas.{step_below}
+use Rattle.lts.specs.Labels.{text_of}
 use Rattle.lts.specs.Lts.{Grouped, system_of}
 use Rattle.signatures.specs.Lists.{pair_cmp, list_at}
 use Rattle.signatures.proofs.CallerLemmas.{rising_none}
@@ -20,9 +21,6 @@ use Rattle.refine_core.specs.IndexState.{IsReadyToSign, SignsEach}
 use Rattle.refine_core.specs.Shown.{Was, IsAsBefore, IsSplitSignature, IsStrongSplitSignature, Follows, WasSplit}
 use Rattle.refine_core.specs.Shown.{IsUnaffected}
 use Rattle.refine_core.proofs.EqualLists.{Labelled, equal_lists}
-
-pub not_both : ¬ (Strong ≡ Branching)
-not_both is = cc
 
 -- If two states share a block, then their signatures in the last round were equal. Before the first round, all
 -- signatures are taken to be empty.
@@ -89,26 +87,9 @@ module _ (rel : Relation) (l : Grouped) (labelled : Labelled l) (old : Option (L
 -- the new signature. If no round has run yet, then the split signature of a state equals its signature.
 pub split_signature_first : (rel : Relation) (l : Grouped) (of : List ℕ) (s : ℕ) (list : List (ℕ × ℕ))
     → IsSplitSignature rel l None of s list → IsSignature rel l of s list
-split_signature_first rel l of s list (inl p) = rw p.0 (record {
-  exactly = λ k b. (λ c. absurd (omega (arith, c.1)), λ h. absurd ((p.1 _ b).0 h.1));
-  ascending = rising_none pair_cmp;
-})
+split_signature_first rel l of s list (inl p) =
+    rw p.0 (record { exactly = λ k b. grind (arith, p.1 (text_of l.labels k) b); ascending = rising_none pair_cmp })
 split_signature_first rel l of s list (inr p) = p.2
-
--- The split signature of a state is empty if its signature has not changed since the last round, and otherwise it is
--- the new signature. Suppose that `signature_ids` has the ID of the split signature for each active state (each state
--- that the round processes), and the ID of the empty signature for each other state. Suppose also that each state is
--- active, is in a singleton block, or has the same signature as in the last round. Then `signature_ids` has the ID of
--- the split signature for each state outside singleton blocks.
-pub split_signature_each : (rel : Relation) (l : Grouped) (old : Option (List ℕ)) (of active : List ℕ)
-    (signatures : List (List (ℕ × ℕ))) (signature_ids : List ℕ) → list_at signatures 0 ≡ [] → length signature_ids
-    ≡ l.states → InactiveHaveNone active signature_ids
-    → ((s : ℕ) → IsMember active s
-    → IsSingleton of s ⊎ IsSplitSignature rel l old of s (list_of signatures signature_ids s))
-    → ((s : ℕ) → s < l.states → IsMember active s ⊎ IsSingleton of s ⊎ IsAsBefore rel l old of s)
-    → (s : ℕ) → s < l.states → IsSingleton of s ⊎ IsSplitSignature rel l old of s (list_of signatures signature_ids s)
-split_signature_each rel l old of active signatures signature_ids first size none given others s ls =
-    grind (arith, others s ls, none s, given s, size, first)
 
 -- The condition `Follows` implies the condition `WasSplit`: the blocks `of` result from splitting the blocks `old` of
 -- the last round by signatures.
@@ -143,18 +124,15 @@ affected_changed l sys (Some old) of low follows s a t step new same =
 -- signature, and that each other state has the ID of the empty signature. Then the round has computed the signatures
 -- correctly (`SignsEach`).
 pub strong_signs : (l : Grouped) (old : Option (List ℕ)) (r : Signed) → IsReadyToSign Strong l old r
-    → (signatures : List (List (ℕ × ℕ))) (signature_ids : List ℕ) → list_at signatures 0 ≡ [] → length signature_ids
-    ≡ l.states
-    → InactiveHaveNone r.blocks.active signature_ids
+    → (signatures : List (List (ℕ × ℕ))) (signature_ids : List ℕ) → list_at signatures 0 ≡ []
+    → length signature_ids ≡ l.states → InactiveHaveNone r.blocks.active signature_ids
     → ((s : ℕ) → IsMember r.blocks.active s → IsStrongSplitSignature l r.blocks.block_ids r.blocks.first_new s
     (list_of signatures signature_ids s))
     → SignsEach Strong l old (record r { signatures = signatures; signature_ids = signature_ids })
 strong_signs l old r ready signatures signature_ids first size none put =
     let given = λ (s : ℕ) (one : IsMember r.blocks.active s). put s one old (ready.follows refl) in record {
       split = ready.split;
-      each = split_signature_each Strong l old r.blocks.block_ids r.blocks.active signatures signature_ids first size
-          none
-          (λ s one. inr (given s one)) ready.others;
+      each = λ s ls. grind (arith, ready.others s ls, none s, given s, size, first);
       first = λ is s one. split_signature_first Strong l r.blocks.block_ids s _ (rw is at (given s one));
-      cached = λ is. absurd (not_both is);
+      cached = λ is. absurd cc;
     }
