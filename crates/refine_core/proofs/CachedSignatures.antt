@@ -1,14 +1,15 @@
 -- Proofs about the signatures that are cached from round to round for branching bisimilarity. If the cached signatures
 -- are correct before a round, they are correct after the round.
-use Rattle.std.proofs.Common.{rules, ◌≡◌, ◌⊎◌, ◌↔◌, ◌∙◌, ℕ, ◌<◌, List, [], length, slice_index, Option, None, Some}
-use Rattle.std.proofs.Common.{ap, refl, inl, inr, arith}
+use Rattle.std.proofs.Common.{rules, ◌≡◌, ◌⊎◌, ◌↔◌, ◌∙◌, ℕ, ◌<◌, List, [], length, slice_index, Option, None, Some, ap}
+use Rattle.std.proofs.Common.{refl, inl, inr, arith, ◌∷◌, sym, subst}
 use Rattle.std.proofs.lemmas.Grind.{common_steps}
 use Rattle.std.proofs.Math.Logic.{⊎_map}
 use Rattle.std.proofs.lemmas.List.{get_or_default}
-use Rattle.theory.specs.System.{IsSystem}
+use Rattle.theory.specs.System.{IsSystem, Step, internal}
 use Rattle.theory.specs.declared.relation.Relation.{Relation}
 use Rattle.theory.specs.declared.relation.Relation.TheVariants.{Strong, Branching}
 use Rattle.theory.specs.Unaffected.{HasEmptySignature}
+use Rattle.theory.proofs.CallerLemmas.{empty_before}
 use Rattle.lts.specs.Labels.{text_of}
 use Rattle.lts.specs.Lts.{Grouped, row_of, system_of}
 use Rattle.signatures.specs.Lists.{AreLists, AreIds, Grow, list_at, pair_cmp}
@@ -18,12 +19,11 @@ use Rattle.partition.specs.Blocks.{RoundBlocks, AreActive, IsMember, InactiveHav
 use Rattle.inert.specs.Signed.{AreCachedBeside, IsSignature, IsIdIfChanged}
 use Rattle.refine_core.specs.Signatures.{Signed, HasNoSignatures, list_of}
 use Rattle.refine_core.specs.IndexState.{MayBuildIndex, IsReadyToSign, AreAllActive, OthersKeepSignatures, SignsEach}
-use Rattle.refine_core.specs.Shown.{Was, IsAsBefore, IsSplitSignature}
+use Rattle.refine_core.specs.Shown.{Was, IsAsBefore, IsSplitSignature, WasSplit}
 use Rattle.refine_core.specs.Cached.{CachesIds, IsListOf}
 use Rattle.refine_core.specs.declared.predecessors.Reach.TheVariants.{Back}
-use Rattle.refine_core.proofs.EqualLists.{Labelled, equal_represented, label_id_of, was_label_id}
+use Rattle.refine_core.proofs.Showing.{Labelled, equal_represented, label_id_of, was_label_id}
 use Rattle.refine_core.proofs.ActiveStates.{StepsAreRow, no_step}
-use Rattle.refine_core.proofs.EnoughActive.{empty_was, row_shows}
 
 -- Suppose that only the empty signature is interned, and that its ID is cached for each state. Suppose also that each
 -- state is active (processed by the round), is in a singleton block, or has an empty signature. For strong
@@ -46,13 +46,23 @@ ready_discarded rel l r size discarded first others = record {
   empty = λ branching none. discarded.empty;
 }
 
+-- If the branching signature of a state is empty, then its branching signature in the last round was empty, too.
+pub empty_was : (l : Grouped) → IsSystem (system_of l) → (old : Option (List ℕ)) (of : List ℕ)
+    → WasSplit Branching l old of → (s : ℕ) → s < l.states → HasEmptySignature (system_of l) (slice_index of) s
+    → (a : List ℕ) (b : ℕ) → ¬ Was Branching l old s a b
+empty_was l sys None of was s ls none = λ a b h. h
+empty_was l sys (Some old) of was s ls none =
+    empty_before (system_of l) sys (slice_index old) (slice_index of) (λ s t ls lt e. ((was s t ls lt).0 e).0) s ls none
+
 -- If a state has no transition, then its signature is empty for any blocks.
 empty_row : (rel : Relation) (l : Grouped) (s : ℕ) → StepsAreRow l s → row_of s l.places ≡ [] → (old : Option (List ℕ))
     (a : List ℕ) (b : ℕ) → ¬ Was rel l old s a b
 empty_row rel l s steps empty None a b was = was
 empty_row Strong l s steps empty (Some old) a b was = no_step l s steps empty a was.0 was.1
-empty_row Branching l s steps empty (Some old) a b was =
-    row_shows l (slice_index old) s (no_step l s steps empty) a b was
+empty_row Branching l s steps empty (Some old) a b (u, t, ([], here), step, at, other) =
+    no_step l s steps empty a t (subst (λ x. Step (system_of l) x a t) (sym here) step)
+empty_row Branching l s steps empty (Some old) a b (u, t, (v ∷ us, on), step, at, other) =
+    no_step l s steps empty internal v on.0.0
 
 -- Suppose that each state is active (processed by the round), is in a singleton block, or has no transition. Then each
 -- state that is neither active nor in a singleton block has the same signature as in the last round, namely the empty

@@ -1,5 +1,4 @@
 pub mod CallerLemmas
-pub mod EqualLists
 pub mod Showing
 pub mod Spending
 pub mod StrongRow
@@ -9,6 +8,4 @@ pub mod Finding
 pub mod Searching
 pub mod IndexStates
 pub mod Indexing
-pub mod EnoughActive
 pub mod CachedSignatures
-pub mod Rounding

@@ -10,7 +10,7 @@ use Rattle.refine_core.proofs.Spending.{on_err_from}
 use Rattle.partition.specs.Blocks.{RoundBlocks}
 use Rattle.partition.specs.Renumberings.{WereHalved}
 use Rattle.partition.proofs.CallerLemmas.{one_block, halved}
-use Rattle.refine_core.proofs.Rounding.{awaits_after_drop, awaits_unindexed}
+use Rattle.refine_core.proofs.IndexStates.{awaits_after_drop, awaits_unindexed}
 use Rattle.refine_core.proofs.refinement.refine_blocks.Goals as goal
 use Rattle.refine_core.proofs.refinement.refine_blocks.Given.{Over}
 use Rattle.refine_core.proofs.refinement.refine_blocks.Goals.{After-count-more}

@@ -1,7 +1,7 @@
 use Rattle.std.proofs.Common.{refl, inl, inr}
 use Rattle.refine_core.specs.declared.signed_blocks.IndexState.TheVariants.{Absent, Searched}
 use Rattle.refine_core.proofs.Signatures.{fits_either, split_fits}
-use Rattle.refine_core.proofs.Rounding.{split_of, keeps_index_either}
+use Rattle.refine_core.proofs.IndexStates.{split_of, keeps_index_either}
 use Rattle.refine_core.proofs.signed_blocks.SignedBlocks.split.Goals as goal
 
 pub invariant_of-round : goal.invariant_of-round
