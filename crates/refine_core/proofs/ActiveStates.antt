@@ -56,6 +56,5 @@ signed_more grow rises size more before within this = search rules
 -- The active states are the states that the round processes. Suppose that every state that is not active has the
 -- signature ID 0. Then this is still true after an active state has got another signature ID.
 pub inactive_none_more : (signature_ids active : List ℕ) (i k : ℕ) → i < length active
-    → InactiveHaveNone active signature_ids →
-    InactiveHaveNone active (set signature_ids (slice_index active i) k)
+    → InactiveHaveNone active signature_ids → InactiveHaveNone active (set signature_ids (slice_index active i) k)
 inactive_none_more signature_ids active i k more none t h = grind (arith, common_steps, get_or-set_other, length-set)

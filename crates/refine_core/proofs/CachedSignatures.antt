@@ -165,11 +165,8 @@ module _ (l : Grouped) (labelled : Labelled l) (sys : IsSystem (system_of l)) (o
         → IsSplitSignature Branching l old of s (list_of signatures signature_ids s)
     split_id s h one was = let same = unchanged s h one was in elim (changed s one) [
       | inl (is, zero) ↦ inl (ap (list_at signatures) zero ∙ are.first, same.0 is)
-      | inr (other, now) ↦ rw now (inr (
-        λ nil. other (same.1 (empty_still s h one nil)),
-        λ is. other (same.1 is),
-        signed s one,
-      ))
+      | inr (other, now) ↦
+          rw now (inr (λ nil. other (same.1 (empty_still s h one nil)), λ is. other (same.1 is), signed s one))
     ]
 
     -- For each state that is not in a singleton block, the new cached ID is the ID of the signature of this state.

@@ -50,7 +50,6 @@ pub record Made (rel : Relation) (l : Grouped) (old at : Counts) (blocks : List 
   pub rounds : ℕ
   pub fewer : rounds < l.states
   pub past : List (List ℕ)
-  pub were : AreRounds rel (system_of l) blocks past
-  pub halved : WereHalved blocks past
+  pub were : AreRounds rel (system_of l) blocks past × WereHalved blocks past
   pub underway : Underway rel (system_of l) rounds (slice_index blocks)
   pub costs : Costs old at rounds (rounds * length l.places) (rounds * length l.places)

@@ -22,24 +22,15 @@ loop-before-init g c =
     let ids = c.in_ok-blocks.blocks.block_ids in
     let blocks = c.in_ok-blocks.ensures in
     let is = c.in_ok-round.ensures.blocks in
-    let system = c.states.ensures.lts.system in
     let one = one_block l.states ids c.states.result (sym c.states.ensures.value) blocks.one in
-    let begun = c.refinement_goes_on.ensures.begun rel (system_of l) (slice_index ids) system one in
-    let fewer = c.refinement_goes_on.ensures.below rel (system_of l) 0 (slice_index ids) system begun in
+    let begun = c.refinement_goes_on.ensures.begun rel (system_of l) (slice_index ids) c.states.ensures.lts.system one in
     record {
       states = rw is (blocks.states ∙ c.states.ensures.value);
       awaits = awaits_unindexed rel l c.in_ok-round.round None (ap (λ b. b.first_new) is ∙ blocks.count.1)
           c.in_ok-round.ensures.absent
           (λ s h. ⊎_map (λ one. rw (is, blocks.active) one) inr (c.in_ok-active.ensures.rows s h));
-      made = rw is (record {
-        rounds = 0;
-        fewer = fewer;
-        past = [];
-        were = one;
-        halved = tt;
-        underway = begun;
-        costs = omega arith;
-      });
+      made = rw is
+          (record { rounds = 0; fewer = omega arith; past = []; were = (one, tt); underway = begun; costs = omega arith });
     }
 
 pub next_round-requires-clause-ready_for_round : goal.next_round-requires-clause-ready_for_round
@@ -48,10 +39,9 @@ next_round-requires-clause-ready_for_round g c =
 
 pub next_round-requires-clause-room : goal.next_round-requires-clause-room
 next_round-requires-clause-room g c =
-    let l = c.args.l.now in
     let made = c.loop-before.invariant.made in
-    let n = length l.places in
-    let most = mul-le (suc made.rounds) n l.states n (omega (arith, made.fewer)) (omega arith) in
+    let n = length c.args.l.now.places in
+    let most = mul-le (suc made.rounds) n c.args.l.now.states n (omega (arith, made.fewer)) (omega arith) in
     omega (arith, suc-mul made.rounds n, most, made.costs, made.fewer, c.requires.room)
 
 pub returns-in_err-next-clause-err : goal.returns-in_err-next-clause-err
@@ -76,14 +66,10 @@ module _ (g : Over) (c : After-count-more g) where
   were : let of = c.in_ok-next.next.blocks.block_ids in let past = old.block_ids ∷ c.loop-before.invariant.made.past in
       AreRounds g.S.Signing.relation (system_of c.args.l.now) of past × WereHalved of past
   were = let made = c.loop-before.invariant.made in
-      let size = c.loop-before.invariant.states in (
-        (next.split, made.were),
-        (
-          halved old.block_ids c.in_ok-next.next.blocks.block_ids old.count (next.states ∙ sym size)
-              (λ s h. next.stays s (omega (arith, h, size))) next.halves,
-          made.halved,
-        ),
-      )
+      let size = sym c.loop-before.invariant.states in
+      let half = halved old.block_ids c.in_ok-next.next.blocks.block_ids old.count (next.states ∙ size)
+      (λ s h. next.stays s (omega (arith, h, size))) next.halves in
+      ((next.split, made.were.0), (half, made.were.1))
 
   costs : let k = suc c.loop-before.invariant.made.rounds in let n = length c.args.l.now.places in
       Costs (g.M.Meter.counted c.args.m.now) (g.M.Meter.counted c.next_round.new.m) k (k * n) (k * n)
@@ -131,7 +117,6 @@ loop-before-preserved g c =
     let d = (goal.at.loop-before-preserved g c).After-count-more in
     let made = c.loop-before.invariant.made in
     let next = next g d in
-    let (rounds, halves) = were g d in
     let counts = ap (λ b. b.count) c.in_ok-before.ensures.blocks in
     let rel = g.S.Signing.relation in
     let A = system_of c.args.l.now in
@@ -139,16 +124,9 @@ loop-before-preserved g c =
     let on = c.refinement_goes_on.ensures.more rel A made.rounds (slice_index c.loop-before.round.blocks.block_ids) _
     system made.underway next.split (λ same. c.if-more-count.false (omega (arith, next.same.1 same, counts))) in
     let fewer = c.refinement_goes_on.ensures.below rel A _ _ system on in
+    let costs = costs g d in
     record {
       states = next.states;
       awaits = next.awaits;
-      made = record {
-        rounds = _;
-        fewer = fewer;
-        past = _ ∷ made.past;
-        were = rounds;
-        halved = halves;
-        underway = on;
-        costs = costs g d;
-      };
+      made = record { rounds = _; fewer = fewer; past = _ ∷ made.past; were = were g d; underway = on; costs = costs };
     }
