@@ -18,11 +18,10 @@ use Rattle.partition.specs.Splitting.{IsSingleton}
 use Rattle.partition.specs.Blocks.{RoundBlocks, AreActive, IsMember, InactiveHaveNone}
 use Rattle.inert.specs.Signed.{AreCachedBeside, IsSignature, IsIdIfChanged}
 use Rattle.refine_core.specs.Signatures.{Signed, HasNoSignatures, list_of}
-use Rattle.refine_core.specs.IndexState.{MayBuildIndex, IsReadyToSign, AreAllActive, OthersKeepSignatures, SignsEach}
+use Rattle.refine_core.specs.IndexState.{IsReadyToSign, AreAllActive, OthersKeepSignatures, SignsEach}
 use Rattle.refine_core.specs.Shown.{Was, IsAsBefore, IsSplitSignature, WasSplit}
-use Rattle.refine_core.specs.Cached.{CachesIds, IsListOf}
-use Rattle.refine_core.specs.declared.predecessors.Reach.TheVariants.{Back}
-use Rattle.refine_core.proofs.Showing.{Labelled, equal_represented, label_id_of, was_label_id}
+use Rattle.refine_core.specs.Cached.{IsListOf}
+use Rattle.refine_core.proofs.Showing.{Labelled, equal_represented, label_id_of}
 use Rattle.refine_core.proofs.ActiveStates.{StepsAreRow, no_step}
 
 -- Suppose that only the empty signature is interned, and that its ID is cached for each state. Suppose also that each
@@ -73,13 +72,6 @@ all_active_as_before rel l steps old p all s h = ⊎_map (λ one. one) (⊎_map 
     let none = empty_row rel l s (steps s) empty in
     (λ can. absurd (none (Some p.block_ids) a b can), λ was. absurd (none old a b was)))) (all s h)
 
--- Suppose that only the empty signature is interned, and that its ID is cached for each state. Then this is still true
--- after the step in which the predecessor index may be built.
-pub still_discarded : (p r : Signed) (l : Grouped) → HasNoSignatures p.blocks.block_ids p.signatures p.cached
-    → MayBuildIndex l Back p r → HasNoSignatures r.blocks.block_ids r.signatures r.cached
-still_discarded p r l discarded (inl same) = rw same discarded
-still_discarded p r l discarded (inr begun) = grind (arith, common_steps, begun, discarded)
-
 -- These lemmas are about the data r of a round: the blocks, the states to process, the signatures, and the predecessor
 -- index. They assume that r is ready for computing branching signatures (`IsReadyToSign`).
 module _ (l : Grouped) (labelled : Labelled l) (sys : IsSystem (system_of l)) (old : Option (List ℕ)) (r : Signed)
@@ -89,9 +81,6 @@ module _ (l : Grouped) (labelled : Labelled l) (sys : IsSystem (system_of l)) (o
 
   abbrev active : List ℕ
   active = r.blocks.active
-
-  keeps : CachesIds l of r.signatures r.cached old
-  keeps = ready.cached refl
 
   -- Each state is active (processed by the round), is in a singleton block, or has the ID of its present signature in
   -- the cache.
@@ -103,7 +92,7 @@ module _ (l : Grouped) (labelled : Labelled l) (sys : IsSystem (system_of l)) (o
     | inr (inr same) ↦ inr (⊎_map (λ alone. alone) (λ list. record {
       exactly = λ k b. grind (arith, list.1 k b, same (text_of l.labels k) b);
       ascending = list.0;
-    }) (keeps.each s h))
+    }) ((ready.cached refl).each s h))
   ]
 
   -- The active states are the states that the round processes. If a state shares a block with an active state, then it
@@ -123,51 +112,44 @@ module _ (l : Grouped) (labelled : Labelled l) (sys : IsSystem (system_of l)) (o
       (changed : (s : ℕ) → IsMember active s
       → IsIdIfChanged (slice_index r.cached s) (slice_index cached s) (slice_index signature_ids s))
       (still : (s : ℕ) → IsMember active s ⊎ (slice_index cached s ≡ slice_index r.cached s)) where
-    was_within : (s : ℕ) → s < l.states → slice_index r.cached s < length r.signatures
-    was_within s h = keeps.signature_ids s 0 (omega (arith, h, keeps.states))
+    within : (s : ℕ) → s < l.states → slice_index r.cached s < length r.signatures
+    within s h = let keeps = ready.cached refl in keeps.signature_ids s 0 (omega (arith, h, keeps.states))
 
     -- A signature that was cached before the round keeps its ID when the signatures of the round are interned.
     same_list : (s : ℕ) → s < l.states → list_at signatures (slice_index r.cached s) ≡ list_of r.signatures r.cached s
-    same_list s h = grow.same (slice_index r.cached s) (was_within s h)
+    same_list s h = grow.same (slice_index r.cached s) (within s h)
 
-    -- Let s be an active state, which is a state that the round processes. Suppose that the cache has the signature of
-    -- s from the last round. Then the new cached ID of s equals the old cached ID if and only if the signature of s has
-    -- not changed since the last round.
-    unchanged : (s : ℕ) → s < l.states → IsMember active s
-        → IsListOf l (Was Branching l old s) (list_of r.signatures r.cached s)
-        → (slice_index r.cached s ≡ slice_index cached s) ↔ IsAsBefore Branching l old of s
-    unchanged s h one was =
-        let told = equal_represented l _ _ (list_of signatures cached s) (list_of r.signatures r.cached s)
-        (label_id_of l labelled Branching (slice_index of) s) (was_label_id l labelled Branching old s)
-        ((signed s one).ascending, (signed s one).exactly) was in
-        let apart = are.different (slice_index r.cached s) (slice_index cached s) in
-        grind (arith, told, same_list s h, apart, was_within s h, grow.longer, each s 0, states)
+    -- In the following lemmas, s is an active state, which is a state that the round processes, and the cache has the
+    -- signature of s from the last round.
+    module _ (s : ℕ) (h : s < l.states) (one : IsMember active s)
+        (was : IsListOf l (Was Branching l old s) (list_of r.signatures r.cached s)) where
+      -- The new cached ID of s equals the old cached ID if and only if the signature of s has not changed since the
+      -- last round.
+      unchanged : (slice_index r.cached s ≡ slice_index cached s) ↔ IsAsBefore Branching l old of s
+      unchanged =
+          let told = equal_represented l _ _ (list_of signatures cached s) (list_of r.signatures r.cached s)
+          (label_id_of l labelled Branching (Some of) s) (label_id_of l labelled Branching old s)
+          ((signed s one).ascending, (signed s one).exactly) was in
+          let apart = are.different (slice_index r.cached s) (slice_index cached s) in
+          grind (arith, told, same_list s h, apart, within s h, grow.longer, each s 0, states)
 
-    -- If the new signature of an active state (a state that the round processes) is empty, then the signature of this
-    -- state was empty in the last round, too.
-    empty_still : (s : ℕ) → s < l.states → IsMember active s → list_of signatures cached s ≡ []
-        → IsAsBefore Branching l old of s
-    empty_still s h one nil a b =
-        (λ can. absurd (shows a b can), λ can. absurd (empty_was l sys old of ready.split s h shows a b can))
-      where
-        shows : HasEmptySignature (system_of l) (slice_index of) s
-        shows a b can =
-            let (k, number) = label_id_of l labelled Branching (slice_index of) s a b can in
-            let c = ((signed s one).exactly k b).1 (number.below, rw number.text can) in
-            absurd (omega (arith, (rw nil at c).1))
+      -- If the new signature of s is empty, then the signature of s was empty in the last round, too.
+      empty_still : list_of signatures cached s ≡ [] → IsAsBefore Branching l old of s
+      empty_still nil a b =
+          let shows : HasEmptySignature (system_of l) (slice_index of) s = λ a b can.
+          let (k, number) = label_id_of l labelled Branching (Some of) s a b can in
+          let c = ((signed s one).exactly k b).1 (number.below, rw number.text can) in
+          omega (arith, (rw nil at c).1) in
+          (λ can. absurd (shows a b can), λ can. absurd (empty_was l sys old of ready.split s h shows a b can))
 
-    -- The split signature of a state is empty if its signature has not changed since the last round, and otherwise it
-    -- is the new signature. Let s be an active state, which is a state that the round processes. Suppose that the cache
-    -- has the signature of s from the last round. Then `signature_ids` has the ID of the split signature of s
-    -- (`IsSplitSignature`).
-    split_id : (s : ℕ) → s < l.states → IsMember active s
-        → IsListOf l (Was Branching l old s) (list_of r.signatures r.cached s)
-        → IsSplitSignature Branching l old of s (list_of signatures signature_ids s)
-    split_id s h one was = let same = unchanged s h one was in elim (changed s one) [
-      | inl (is, zero) ↦ inl (ap (list_at signatures) zero ∙ are.first, same.0 is)
-      | inr (other, now) ↦
-          rw now (inr (λ nil. other (same.1 (empty_still s h one nil)), λ is. other (same.1 is), signed s one))
-    ]
+      -- The split signature of a state is empty if its signature has not changed since the last round, and otherwise it
+      -- is the new signature. The list `signature_ids` has the ID of the split signature of s (`IsSplitSignature`).
+      split_id : IsSplitSignature Branching l old of s (list_of signatures signature_ids s)
+      split_id = elim (changed s one) [
+        | inl (is, zero) ↦ inl (ap (list_at signatures) zero ∙ are.first, unchanged.0 is)
+        | inr (other, now) ↦
+            rw now (inr (λ nil. other (unchanged.1 (empty_still nil)), λ is. other (unchanged.1 is), signed s one))
+      ]
 
     -- For each state that is not in a singleton block, the new cached ID is the ID of the signature of this state.
     cached_now : (s : ℕ) → s < l.states → IsSingleton of s ⊎ IsSignature Branching l of s (list_of signatures cached s)
@@ -178,9 +160,9 @@ module _ (l : Grouped) (labelled : Labelled l) (sys : IsSystem (system_of l)) (o
     -- The new signatures of all states are cached for the next round (`SignsEach`).
     pub branching_signs : SignsEach Branching l old
         (record r { signatures = signatures; cached = cached; signature_ids = signature_ids })
-    branching_signs = record {
+    branching_signs = let keeps = ready.cached refl in record {
       split = ready.split;
-      each = λ s h. let given = λ (one : IsMember active s). ⊎_map (λ alone. alone) (split_id s h one) (keeps.each s h) in
+      each = λ s h. let given = λ (one : IsMember active s). ⊎_map (λ x. x) (split_id s h one) (keeps.each s h) in
           grind (arith, ready.others s h, none s, given, have, are.first);
       first = λ none s one. grind (arith, common_steps, changed s one, signed s one, ready.empty refl none s);
       cached = λ branching. record {

@@ -1,7 +1,6 @@
 pub mod CallerLemmas
 pub mod Showing
 pub mod Spending
-pub mod StrongRow
 pub mod Signatures
 pub mod ActiveStates
 pub mod Finding

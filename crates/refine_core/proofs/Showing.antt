@@ -8,7 +8,7 @@ use Rattle.std.proofs.lemmas.Grind.{common_steps}
 use Rattle.theory.specs.System.{Step, IsSystem}
 use Rattle.theory.specs.declared.relation.Relation.{Relation}
 use Rattle.theory.specs.declared.relation.Relation.TheVariants.{Strong, Branching}
-use Rattle.theory.specs.Blocks.{Signature, SameSignature, Split}
+use Rattle.theory.specs.Blocks.{SameSignature, Split}
 use Rattle.theory.proofs.CallerLemmas.{step_below}
 use Rattle.lts.specs.Labels.{text_of, IsLabelId}
 use Rattle.lts.specs.Lts.{Grouped, system_of}
@@ -32,18 +32,13 @@ Labelled l = (s : ℕ) (a : List ℕ) (t : ℕ) → Step (system_of l) s a t →
 abbrev HasLabels : Grouped → (List ℕ → ℕ → Type 0) → Type 0
 HasLabels l has = (a : List ℕ) (b : ℕ) → has a b → (k : ℕ) × IsLabelId l.labels k a
 
--- If the label of each step is in the label table, then each label in the signature of a state is in the label table.
-pub label_id_of : (l : Grouped) → Labelled l → (rel : Relation) (blocks : ℕ → ℕ) (s : ℕ)
-    → HasLabels l (Signature rel (system_of l) blocks s)
-label_id_of l labelled Strong blocks s a b h = labelled s a h.0 h.1
-label_id_of l labelled Branching blocks s a b h = labelled h.0 a h.1 h.3
-
 -- If the label of each step is in the label table, then each label in a signature of the last round is in the label
 -- table.
-pub was_label_id : (l : Grouped) → Labelled l → (rel : Relation) (old : Option (List ℕ)) (s : ℕ)
+pub label_id_of : (l : Grouped) → Labelled l → (rel : Relation) (old : Option (List ℕ)) (s : ℕ)
     → HasLabels l (Was rel l old s)
-was_label_id l labelled rel None s a b h = absurd h
-was_label_id l labelled rel (Some old) s a b h = label_id_of l labelled rel (slice_index old) s a b h
+label_id_of l labelled rel None s a b h = absurd h
+label_id_of l labelled Strong (Some old) s a b h = labelled s a h.0 h.1
+label_id_of l labelled Branching (Some old) s a b h = labelled h.0 a h.1 h.3
 
 carried_over : (l : Grouped) (P Q : List ℕ → ℕ → Type 0) (xs : List (ℕ × ℕ)) → HasLabels l P → IsListOf l P xs
     → IsListOf l Q xs → (a : List ℕ) (b : ℕ) → P a b → Q a b
@@ -67,8 +62,8 @@ pub equal_lists : (rel : Relation) (l : Grouped) (labelled : Labelled l) (blocks
     (xs ys : List (ℕ × ℕ)) → IsSignature rel l blocks s xs → IsSignature rel l blocks t ys
     → (xs ≡ ys) ↔ SameSignature rel (system_of l) (slice_index blocks) s t
 equal_lists rel l labelled blocks s t xs ys of_s of_t =
-    equal_represented l _ _ xs ys (label_id_of l labelled rel (slice_index blocks) s)
-    (label_id_of l labelled rel (slice_index blocks) t) (of_s.ascending, of_s.exactly) (of_t.ascending, of_t.exactly)
+    equal_represented l _ _ xs ys (label_id_of l labelled rel (Some blocks) s)
+    (label_id_of l labelled rel (Some blocks) t) (of_s.ascending, of_s.exactly) (of_t.ascending, of_t.exactly)
 
 -- If two states share a block, then their signatures in the last round were equal. Before the first round, all
 -- signatures are taken to be empty.
@@ -112,8 +107,7 @@ module _ (rel : Relation) (l : Grouped) (labelled : Labelled l) (old : Option (L
     λ h a b. grind (arith, p.1 a b, q.1 a b, was_alike rel l old of was s t ls lt one a b),
     λ h. p.0 ∙ sym q.0,
   )
-  told s t ls lt one (inr (inl p)) (inr (inr q)) =
-      (λ h. absurd (q.0 (sym h ∙ p.0)), λ h. absurd (differ s t ls lt one p.1 q.1 h))
+  told s t ls lt one (inr (inl p)) (inr (inr q)) = grind (arith, p.0, q.0, differ s t ls lt one p.1 q.1)
   told s t ls lt one (inr (inr p)) (inr (inl q)) =
       (λ h. absurd (p.0 (h ∙ q.0)), λ h. absurd (differ t s lt ls (sym one) q.1 p.1 (λ a b. ((h a b).1, (h a b).0))))
   told s t ls lt one (inr (inr p)) (inr (inr q)) = equal_lists rel l labelled of s t _ _ p.2 q.2
@@ -126,18 +120,8 @@ module _ (rel : Relation) (l : Grouped) (labelled : Labelled l) (old : Option (L
       → (next s ≡ next t) ↔ ((slice_index of s ≡ slice_index of t) × (shown s ≡ shown t)))
       → Split rel (system_of l) (slice_index of) next
   split_by_split_signatures each next split s t ls lt =
-      let tells = λ (one : slice_index of s ≡ slice_index of t). told s t ls lt one (each s ls) (each t lt) in (
-        λ e. let h = (split s t ls lt).0 e in (h.0, (tells h.0).0 h.1),
-        λ h. (split s t ls lt).1 (h.0, (tells h.0).1 h.1),
-      )
-
--- The split signature of a state is empty if its signature has not changed since the last round, and otherwise it is
--- the new signature. If no round has run yet, then the split signature of a state equals its signature.
-pub split_signature_first : (rel : Relation) (l : Grouped) (of : List ℕ) (s : ℕ) (list : List (ℕ × ℕ))
-    → IsSplitSignature rel l None of s list → IsSignature rel l of s list
-split_signature_first rel l of s list (inl p) =
-    rw p.0 (record { exactly = λ k b. grind (arith, p.1 (text_of l.labels k) b); ascending = rising_none pair_cmp })
-split_signature_first rel l of s list (inr p) = p.2
+      let tells = λ (one : slice_index of s ≡ slice_index of t). told s t ls lt one (each s ls) (each t lt) in
+      grind (arith, split s t ls lt, tells)
 
 -- The condition `Follows` implies the condition `WasSplit`: the blocks `of` result from splitting the blocks `old` of
 -- the last round by signatures.
@@ -181,6 +165,12 @@ strong_signs l old r ready signatures signature_ids first size none put =
     let given = λ (s : ℕ) (one : IsMember r.blocks.active s). put s one old (ready.follows refl) in record {
       split = ready.split;
       each = λ s ls. grind (arith, ready.others s ls, none s, given s, size, first);
-      first = λ is s one. split_signature_first Strong l r.blocks.block_ids s _ (rw is at (given s one));
+      first = λ is s one. elim (rw is at (given s one)) [
+        | inl same ↦ rw same.0 (record {
+          exactly = λ k b. grind (arith, same.1 (text_of l.labels k) b);
+          ascending = rising_none pair_cmp;
+        })
+        | inr changed ↦ changed.2
+      ];
       cached = λ is. absurd cc;
     }

@@ -22,9 +22,9 @@ abbrev pub AreAllActive : Grouped → List ℕ → List ℕ → Type 0
 AreAllActive l blocks active = (s : ℕ) → s < l.states → IsMember active s ⊎ IsSingleton blocks s
     ⊎ (row_of s l.places ≡ [])
 
--- `OthersKeepSignatures` holds if each state is active (processed by the round), is in a singleton block, or has the same
--- signature as in the last round (`IsAsBefore`). The record p has the blocks and the active states, and the list `old`
--- has the block IDs in the last round.
+-- `OthersKeepSignatures` holds if each state is active (processed by the round), is in a singleton block, or has the
+-- same signature as in the last round (`IsAsBefore`). The record p has the blocks and the active states, and the list
+-- `old` has the block IDs in the last round.
 abbrev pub OthersKeepSignatures : Relation → Grouped → Option (List ℕ) → RoundBlocks → Type 0
 OthersKeepSignatures rel l old p = (s : ℕ) → s < l.states → IsMember p.active s ⊎ IsSingleton p.block_ids s
     ⊎ IsAsBefore rel l old p.block_ids s

@@ -1,4 +1,4 @@
-use Rattle.std.proofs.Common.{◌≡◌, suc, ◌+◌, ◌*◌, [], ◌∷◌, length, slice_index, None, ap, sym, ◌∙◌, inr, arith}
+use Rattle.std.proofs.Common.{◌≡◌, suc, ◌+◌, ◌*◌, ◌≤◌, [], ◌∷◌, length, slice_index, None, ap, sym, ◌∙◌, inr, arith}
 use Rattle.std.proofs.Math.Logic.{⊎_map}
 use Rattle.std.proofs.lemmas.Nat.{mul-le}
 use Rattle.std.proofs.Math.Nat.{suc-mul, add-mul}
@@ -23,14 +23,14 @@ loop-before-init g c =
     let blocks = c.in_ok-blocks.ensures in
     let is = c.in_ok-round.ensures.blocks in
     let one = one_block l.states ids c.states.result (sym c.states.ensures.value) blocks.one in
-    let begun = c.refinement_goes_on.ensures.begun rel (system_of l) (slice_index ids) c.states.ensures.lts.system one in
+    let on = c.refinement_goes_on.ensures.begun rel (system_of l) (slice_index ids) c.states.ensures.lts.system one in
     record {
       states = rw is (blocks.states ∙ c.states.ensures.value);
       awaits = awaits_unindexed rel l c.in_ok-round.round None (ap (λ b. b.first_new) is ∙ blocks.count.1)
           c.in_ok-round.ensures.absent
           (λ s h. ⊎_map (λ one. rw (is, blocks.active) one) inr (c.in_ok-active.ensures.rows s h));
       made = rw is
-          (record { rounds = 0; fewer = omega arith; past = []; were = (one, tt); underway = begun; costs = omega arith });
+          (record { rounds = 0; fewer = omega arith; past = []; were = (one, tt); underway = on; costs = omega arith });
     }
 
 pub next_round-requires-clause-ready_for_round : goal.next_round-requires-clause-ready_for_round
@@ -48,11 +48,9 @@ pub returns-in_err-next-clause-err : goal.returns-in_err-next-clause-err
 returns-in_err-next-clause-err g c =
     let made = c.loop-before.invariant.made in
     let (r, few, one) = c.in_err-next.ensures.err in
-    on_err_from c.from_residual-in_err-next.result (
-      made.rounds + r,
-      omega (arith, made.fewer, few),
-      omega (arith, made.costs, one, add-mul made.rounds r (length c.args.l.now.places)),
-    )
+    let most : made.rounds + r ≤ c.args.l.now.states = omega (arith, made.fewer, few) in
+    let visits = add-mul made.rounds r (length c.args.l.now.places) in
+    on_err_from c.from_residual-in_err-next.result (made.rounds + r, most, omega (arith, made.costs, one, visits))
 
 -- The following lemmas assume that a round was made. Before this round, some states in singleton blocks (blocks with
 -- one state) may have been dropped from the states that the round processes.

@@ -1,6 +1,6 @@
 use Rattle.std.proofs.lemmas.List.{length-set, get_or_default}
-use Rattle.std.proofs.Common.{sym, ◌∙◌, ◌≡◌, ◌≤◌, rules, ◌+◌, ◌<◌, List, length, slice_index, subst, arith}
-use Rattle.lts.specs.Lts.{Triple, before, row_of}
+use Rattle.std.proofs.Common.{sym, ◌∙◌, ◌≡◌, ◌≤◌, rules, ◌+◌, ◌<◌, length, slice_index, subst, arith}
+use Rattle.lts.specs.Lts.{before, row_of}
 use Rattle.lts.specs.Visited.{remaining_of}
 use Rattle.lts.proofs.CallerLemmas.{before-mono, before-next, before-le}
 use Rattle.refine_core.proofs.ActiveStates.{signed_more, inactive_none_more}
@@ -9,19 +9,15 @@ use Rattle.refine_core.proofs.strong.sign_active.Given.{Over}
 use Rattle.refine_core.proofs.strong.sign_active.Goals.{In-loop-i}
 
 -- The loop visits (reads and counts) transitions of the active states, which are the states that the round processes.
--- The list `left` has all transitions that were not yet visited when the loop began, in ascending order of their
--- sources.
 module _ (g : Over) (c : In-loop-i g) where
-  abbrev left : List Triple
-  left = remaining_of c.args.visited.now c.args.under.now.l.now.places
-
   more : c.loop-i.i < length c.args.active.now
   more = omega (arith, c.loop-i-test.true, c.loop-i.auto.i-end)
 
   -- The loop goes through the active states (the states that the round processes) in ascending order. The list `left`
   -- has all transitions that were not yet visited when the loop began, in ascending order of their sources. In this
   -- list, the transitions of the next active state come after all transitions that the loop has visited so far.
-  row : let s = slice_index c.args.active.now c.loop-i.i in (before c.loop-i.invariant.visits.0 left ≤ before s left)
+  row : let left = remaining_of c.args.visited.now c.args.under.now.l.now.places in
+      let s = slice_index c.args.active.now c.loop-i.i in (before c.loop-i.invariant.visits.0 left ≤ before s left)
       × (before (s + 1) left ≡ before s left + length (row_of s left)) × (before (s + 1) left ≤ length left)
   row = search (rules, before-mono, more, before-next, before-le, c.loop-i.invariant.visits)
 
