@@ -1,14 +1,26 @@
--- Lemmas about the loop that computes the signatures of the active states (the states that the round processes), one
--- after the other. The row of a state is the list of its outgoing transitions.
-use Rattle.std.proofs.Common.{rules, ◌≡◌, ◌↔◌, ℕ, ◌+◌, ◌<◌, ◌≤◌, List, [], length, slice_index, set, Contains}
-use Rattle.std.proofs.Common.{subst, arith}
+-- Lemmas about the signatures of the active states, which are the states that the round processes. The row of a state
+-- is the list of its outgoing transitions. For strong bisimilarity, the signature of a state is the list of the pairs
+-- of its transitions, in ascending order and without duplicates. The pair of a transition consists of its label ID and
+-- the block ID of its target.
+use Rattle.std.proofs.Common.{rules, ◌≡◌, ◌↔◌, ℕ, ◌+◌, ◌<◌, List, [], length, slice_index, set, Contains, arith, ◌-◌}
+use Rattle.std.proofs.Common.{◌*◌, ◌/◌, ◌%◌, ◌∷◌, ◌++◌, ◌≤◌, take, map, sym, refl, ap, inl, inr, ◌∙◌}
 use Rattle.std.proofs.lemmas.Grind.{common_steps}
-use Rattle.std.proofs.lemmas.List.{get_or-map, get_or-set_other, get_or_default, length-map, length-set}
+use Rattle.std.proofs.lemmas.List.{get_or-map, get_or-set_other, length-map, length-set}
+use Rattle.std.proofs.lemmas.List.Elements.{All-contains}
+use Rattle.std.specs.List.Sorted.{IsStrictlySortedBy}
 use Rattle.theory.specs.System.{Step}
+use Rattle.theory.specs.declared.relation.Relation.TheVariants.{Strong}
 use Rattle.lts.specs.Labels.{text_of}
 use Rattle.lts.specs.Lts.{Grouped, Triple, source_of, label_of, target_of, place_at, before, row_of, system_of}
-use Rattle.signatures.specs.Lists.{list_at, AreIds, Grow}
-use Rattle.partition.specs.Blocks.{AreActive, IsMember, InactiveHaveNone}
+use Rattle.lts.specs.Lts.{IsTriple, IsLts}
+use Rattle.lts.specs.Visited.{remaining_of}
+use Rattle.lts.proofs.CallerLemmas.{contains_mapped, mapped_contains, left_none}
+use Rattle.signatures.specs.Lists.{list_at, Grow, pair_cmp}
+use Rattle.partition.specs.Blocks.{AreActive, InactiveHaveNone}
+use Rattle.inert.specs.Signed.{HasPair, IsSignature, pair_under}
+use Rattle.refine_core.specs.Signatures.{list_of}
+use Rattle.refine_core.specs.Shown.{HasNewBlock, IsStrongSplitSignature, IsUnaffected}
+use Rattle.refine_core.proofs.Showing.{unaffected_as_before, affected_changed}
 
 -- `StepsAreRow` holds if the definition `Step` agrees with the row of the state s, which is the list of the stored
 -- transitions from s. There must be a step from s to t with the label a if and only if the row has a transition to t
@@ -29,50 +41,117 @@ pub record StepAt (l : Grouped) (s : ℕ) (a : List ℕ) (t : ℕ) : Type 0 wher
 pub step_at : (l : Grouped) (s : ℕ) (a : List ℕ) (t : ℕ) → Step (system_of l) s a t → StepAt l s a t
 step_at l s a t step = grind (arith, common_steps, length-map, get_or-map)
 
--- `Parts` holds if any two states that share a block in `next` also share a block in `of`. The lists `of` and `next`
--- have a block ID for each state.
-abbrev pub Parts : Grouped → List ℕ → List ℕ → Type 0
-Parts l of next = (s t : ℕ) → s < l.states → t < l.states → slice_index next s ≡ slice_index next t
-    → slice_index of s ≡ slice_index of t
-
 -- Suppose that the row of the state s, which is the list of the stored transitions from s, is empty. Then the
 -- definition `Step` gives no step from s.
 pub no_step : (l : Grouped) (s : ℕ) → StepsAreRow l s → row_of s l.places ≡ [] → (a : List ℕ) (t : ℕ)
     → ¬ Step (system_of l) s a t
 no_step l s steps empty a t step = let found = (steps a t).0 step in grind (arith, common_steps)
 
--- The active states are the states that the round processes. Suppose that P holds for each of the first i active states
--- and its signature. The following lemmas are about the step in which the next active state gets the signature with the
--- ID k.
-module _ (signatures signatures' : List (List (ℕ × ℕ))) (signature_ids active : List ℕ) (states i k : ℕ)
-    (grow : Grow signatures signatures')
-    (rises : AreActive states active)
-    (size : length signature_ids ≡ states) (more : i < length active) (P : ℕ → List (ℕ × ℕ) → Type 0) where
-  abbrev Put : List (List (ℕ × ℕ)) → List ℕ → ℕ → Type 0
-  Put ls ns j = (slice_index ns (slice_index active j) < length ls)
-      × P (slice_index active j) (list_at ls (slice_index ns (slice_index active j)))
+module _ (l : Grouped) (blocks : List ℕ) (s : ℕ) (h : IsLts l)
+    (sources : (e : Triple) → Contains (row_of s l.places) e ↔ (Contains l.places e × (source_of e ≡ s)))
+    (steps : StepsAreRow l s) where
+  -- The pair of a transition consists of its label ID and the block ID of its target. This is the list of the pairs of
+  -- the transitions of s.
+  abbrev pairs : List (ℕ × ℕ)
+  pairs = map (pair_under blocks) (row_of s l.places)
 
-  pub signed_more : ((j : ℕ) → j < i → Put signatures signature_ids j) → k < length signatures'
-      → P (slice_index active i) (list_at signatures' k)
-      → (j : ℕ) → j < i + 1 → Put signatures' (set signature_ids (slice_index active i) k) j
-  signed_more before within this = search rules
+  -- The pair of a transition consists of its label ID and the block ID of its target. If the signature of the state s
+  -- contains a pair, then it is the pair of some transition of s.
+  pair_has : (k b : ℕ) → HasPair Strong l blocks s k b → Contains pairs (k, b)
+  pair_has k b has =
+      let found = (steps (text_of l.labels k) has.1.0).0 has.1.1 in
+      grind (arith, common_steps, h.table.different, contains_mapped)
+
+  -- The pair of a transition consists of its label ID and the block ID of its target. The signature of the state s
+  -- contains the pair of each transition of s.
+  has : (z : ℕ × ℕ) → Contains pairs z → HasPair Strong l blocks s z.0 z.1
+  has z c =
+      let (e, at, is) = mapped_contains (pair_under blocks) (row_of s l.places) z c in
+      let triple = All-contains (IsTriple (length l.labels) l.states) l.places e h.in_range.each ((sources e).0 at).0 in
+      rw (sym is) (triple.label, (target_of e, (steps _ (target_of e)).1 (e, at, refl, refl), refl))
+
+  -- In the following lemmas, the list zs contains exactly the pairs of the transitions of s, in strictly ascending
+  -- order.
+  module _ (zs : List (ℕ × ℕ)) (ascending : IsStrictlySortedBy pair_cmp zs)
+      (same : (z : ℕ × ℕ) → Contains zs z ↔ Contains pairs z) where
+    -- If the list zs contains exactly the pairs of the transitions of s, then zs is the signature of s.
+    pub row_signature : IsSignature Strong l blocks s zs
+    row_signature = record {
+      exactly = λ k b. (λ c. has (k, b) ((same (k, b)).0 c), λ p. (same (k, b)).1 (pair_has k b p));
+      ascending = ascending;
+    }
+
+    -- A block is new if the last split has made it. If some transition of the state s leads to a new block, the
+    -- signature of s has changed since the last round. So the split signature of s, by which the split separates s from
+    -- other states of its block, is the new signature.
+    pub row_affected : (first_new : ℕ) → HasNewBlock first_new pairs → IsStrongSplitSignature l blocks first_new s zs
+    row_affected first_new (z, in_row, new) old follows =
+        let (t, step, target) = (has z in_row).1 in
+        let other = affected_changed l h.system old blocks first_new follows s _ t step (omega (arith, new, target)) in
+        inr (λ none. absurd (omega (arith, (rw none at ((same z).1 in_row)).1)), other, row_signature)
+
+  -- A block is new if the last split has made it. If no transition of the state s leads to a new block, the signature
+  -- of s is the same as in the last round. So the split signature of s, by which the split separates s from other
+  -- states of its block, is empty.
+  pub row_unaffected : (first_new : ℕ) → ¬ HasNewBlock first_new pairs → IsStrongSplitSignature l blocks first_new s []
+  row_unaffected first_new none old follows =
+      let still : IsUnaffected (system_of l) (slice_index blocks) first_new s = λ a t step.
+      let (e, in_row, _, target) = (steps a t).0 step in
+      let c = contains_mapped (pair_under blocks) (row_of s l.places) e in_row in
+      let apart : ¬ (first_new ≤ slice_index blocks (target_of e)) = λ h. none (pair_under blocks e, c, h) in
+      omega (arith, apart, ap (slice_index blocks) target) in
+      inl (refl, unaffected_as_before l h.system old blocks first_new follows s still)
+
+-- The loop reads the outgoing transitions of a state. If their number is odd, the loop reads the first transition on
+-- its own. It reads all other transitions two at a time.
+pub by_two : (start end k count : ℕ) → end ≡ start + count → k ≡ start + (end - start) % 2 → (n : ℕ) × (end ≡ k + n * 2)
+by_two start end k count all is = ((end - start) / 2, omega (arith, all, is))
+
+-- Let the transitions of the state s begin at the place (index) `start` in the list of all transitions. Then `pairs_to
+-- k` is the list of the pairs of the transitions of s from the place `start` up to but excluding the place k.
+module _ (blocks : List ℕ) (places : List Triple) (s start : ℕ) where
+  abbrev pub pairs_to : ℕ → List (ℕ × ℕ)
+  pairs_to k = map (pair_under blocks) (take (k - start) (row_of s places))
+
+  pub pairs_none : [] ≡ pairs_to start
+  pairs_none = search rules
+
+  -- A place is an index in the list of all transitions. Suppose that a list has the pairs of the transitions of s
+  -- before the place k. If the pair of the transition at the place k is appended, then the list has the pairs of the
+  -- transitions of s before the place k + 1.
+  pub pairs_more : (k next : ℕ) {label target : ℕ} {pairs new : List (ℕ × ℕ)}
+      → take ((k + 1) - start) (row_of s places) ≡ take (k - start) (row_of s places) ++ place_at places k ∷ []
+      → next ≡ k + 1 → label ≡ (place_at places k).1 → target ≡ (place_at places k).2 → pairs ≡ pairs_to k
+      → new ≡ pairs ++ (label, slice_index blocks target) ∷ [] → new ≡ pairs_to next
+  pairs_more k next {label = label} {target = target} row is_next is_label is_target before after =
+      grind (arith, common_steps)
+
+-- If no transition was visited yet, then the number of unvisited transitions of a state is the number of all its
+-- transitions.
+pub row_all : (visited : List ℕ) (places : List Triple) (s : ℕ) → visited ≡ []
+    → length (row_of s (remaining_of visited places)) ≡ length (row_of s places)
+row_all visited places s none =
+    ap (λ es. length (row_of s es)) (ap (λ visited. remaining_of visited places) none ∙ left_none places)
+
+-- `HasGot` holds if the state s has the ID of an interned signature, and if P holds for s and this signature.
+pub record HasGot (P : ℕ → List (ℕ × ℕ) → Type 0) (signatures : List (List (ℕ × ℕ))) (signature_ids : List ℕ) (s : ℕ) :
+    Type 0 where
+  pub within : slice_index signature_ids s < length signatures
+  pub holds : P s (list_of signatures signature_ids s)
+
+-- The active states are the states that the round processes. Suppose that each of the first i active states has a
+-- signature for which P holds (`HasGot`). If the next active state gets the signature with the ID k, and P holds for
+-- this signature, then the first i + 1 active states have signatures for which P holds.
+pub signed_more : {P : ℕ → List (ℕ × ℕ) → Type 0} {signatures signatures' : List (List (ℕ × ℕ))}
+    {signature_ids active : List ℕ} {states i k : ℕ} → Grow signatures signatures' → AreActive states active
+    → length signature_ids ≡ states → i < length active
+    → ((j : ℕ) → j < i → HasGot P signatures signature_ids (slice_index active j)) → k < length signatures'
+    → P (slice_index active i) (list_at signatures' k)
+    → (j : ℕ) → j < i + 1 → HasGot P signatures' (set signature_ids (slice_index active i) k) (slice_index active j)
+signed_more grow rises size more before within this = search rules
 
 -- The active states are the states that the round processes. Suppose that every state that is not active has the
 -- signature ID 0. Then this is still true after an active state has got another signature ID.
 pub inactive_none_more : (signature_ids active : List ℕ) (i k : ℕ) → i < length active
-    → InactiveHaveNone active signature_ids →
-    InactiveHaveNone active (set signature_ids (slice_index active i) k)
+    → InactiveHaveNone active signature_ids → InactiveHaveNone active (set signature_ids (slice_index active i) k)
 inactive_none_more signature_ids active i k more none t h = grind (arith, common_steps, get_or-set_other, length-set)
-
--- Suppose that P holds for each active state (each state that the round processes) and its signature. Suppose also that
--- each other state has the empty signature.
-module _ (signatures : List (List (ℕ × ℕ))) (signature_ids active : List ℕ)
-    (none : InactiveHaveNone active signature_ids)
-    (P : ℕ → List (ℕ × ℕ) → Type 0)
-    (put : (j : ℕ) → j < length active → (slice_index signature_ids (slice_index active j) < length signatures)
-    × P (slice_index active j) (list_at signatures (slice_index signature_ids (slice_index active j)))) where
-  pub signed_each : (s : ℕ) → IsMember active s → P s (list_at signatures (slice_index signature_ids s))
-  signed_each s one = subst (λ x. P x (list_at signatures (slice_index signature_ids x))) one.2 (put one.0 one.1).1
-
-  pub all_ids : 1 ≤ length signatures → AreIds signatures signature_ids
-  all_ids some s d h = subst (λ x. x < length signatures) (get_or_default signature_ids s 0 d h) (grind arith)

@@ -1,29 +1,28 @@
 -- Proofs about the signatures that are cached from round to round for branching bisimilarity. If the cached signatures
 -- are correct before a round, they are correct after the round.
-use Rattle.std.proofs.Common.{rules, ◌≡◌, ◌⊎◌, ◌↔◌, ◌∙◌, ℕ, ◌<◌, List, [], length, slice_index, Option, None}
-use Rattle.std.proofs.Common.{ap, sym, subst, refl, inl, inr, arith}
+use Rattle.std.proofs.Common.{rules, ◌≡◌, ◌⊎◌, ◌↔◌, ◌∙◌, ℕ, ◌<◌, List, [], length, slice_index, Option, None, Some, ap}
+use Rattle.std.proofs.Common.{refl, inl, inr, arith, ◌∷◌, sym, subst}
 use Rattle.std.proofs.lemmas.Grind.{common_steps}
 use Rattle.std.proofs.Math.Logic.{⊎_map}
 use Rattle.std.proofs.lemmas.List.{get_or_default}
-use Rattle.theory.specs.System.{IsSystem}
+use Rattle.theory.specs.System.{IsSystem, Step, internal}
 use Rattle.theory.specs.declared.relation.Relation.{Relation}
 use Rattle.theory.specs.declared.relation.Relation.TheVariants.{Strong, Branching}
 use Rattle.theory.specs.Unaffected.{HasEmptySignature}
-use Rattle.lts.specs.Lts.{Grouped, system_of}
+use Rattle.theory.proofs.CallerLemmas.{empty_before}
+use Rattle.lts.specs.Labels.{text_of}
+use Rattle.lts.specs.Lts.{Grouped, row_of, system_of}
 use Rattle.signatures.specs.Lists.{AreLists, AreIds, Grow, list_at, pair_cmp}
 use Rattle.signatures.proofs.CallerLemmas.{rising_none}
 use Rattle.partition.specs.Splitting.{IsSingleton}
-use Rattle.partition.specs.Blocks.{AreActive, IsMember, InactiveHaveNone}
+use Rattle.partition.specs.Blocks.{RoundBlocks, AreActive, IsMember, InactiveHaveNone}
 use Rattle.inert.specs.Signed.{AreCachedBeside, IsSignature, IsIdIfChanged}
 use Rattle.refine_core.specs.Signatures.{Signed, HasNoSignatures, list_of}
-use Rattle.refine_core.specs.IndexState.{MayBuildIndex, IsReadyToSign, AreAllActive, SignsEach}
-use Rattle.refine_core.specs.Shown.{Was, IsAsBefore, IsSplitSignature}
-use Rattle.refine_core.specs.Cached.{CachesIds, IsListOf}
-use Rattle.refine_core.specs.declared.predecessors.Reach.TheVariants.{Back}
-use Rattle.refine_core.proofs.EqualLists.{Labelled, equal_represented, label_id_of, was_label_id}
+use Rattle.refine_core.specs.IndexState.{IsReadyToSign, AreAllActive, OthersKeepSignatures, SignsEach}
+use Rattle.refine_core.specs.Shown.{Was, IsAsBefore, IsSplitSignature, WasSplit}
+use Rattle.refine_core.specs.Cached.{IsListOf}
+use Rattle.refine_core.proofs.Showing.{Labelled, equal_represented, label_id_of}
 use Rattle.refine_core.proofs.ActiveStates.{StepsAreRow, no_step}
-use Rattle.refine_core.proofs.EnoughActive.{empty_was, row_shows}
-use Rattle.refine_core.proofs.Showing.{split_signature_each, not_both}
 
 -- Suppose that only the empty signature is interned, and that its ID is cached for each state. Suppose also that each
 -- state is active (processed by the round), is in a singleton block, or has an empty signature. For strong
@@ -31,9 +30,7 @@ use Rattle.refine_core.proofs.Showing.{split_signature_each, not_both}
 -- for computing signatures, as if no round had run (`IsReadyToSign`).
 pub ready_discarded : (rel : Relation) (l : Grouped) (r : Signed) → length r.blocks.block_ids ≡ l.states
     → HasNoSignatures r.blocks.block_ids r.signatures r.cached → (rel ≡ Strong → r.blocks.first_new ≡ 0)
-    → ((s : ℕ) → s < l.states → IsMember r.blocks.active s ⊎ IsSingleton r.blocks.block_ids s
-    ⊎ IsAsBefore rel l None r.blocks.block_ids s)
-    → IsReadyToSign rel l None r
+    → OthersKeepSignatures rel l None r.blocks → IsReadyToSign rel l None r
 ready_discarded rel l r size discarded first others = record {
   split = tt;
   others = others;
@@ -48,20 +45,32 @@ ready_discarded rel l r size discarded first others = record {
   empty = λ branching none. discarded.empty;
 }
 
--- Suppose that each state is active (processed by the round), is in a singleton block, or has no transition. Then each
--- state that is neither active nor in a singleton block has an empty branching signature. This is also the signature
--- that a state is taken to have before the first round.
-pub all_active_as_before : (l : Grouped) → ((s : ℕ) → StepsAreRow l s) → (of active : List ℕ) → AreAllActive l of active
-    → (s : ℕ) → s < l.states → IsMember active s ⊎ IsSingleton of s ⊎ IsAsBefore Branching l None of s
-all_active_as_before l steps of active all s h = ⊎_map (λ one. one) (⊎_map (λ alone. alone) (λ empty a b.
-    (row_shows l (slice_index of) s (no_step l s (steps s) empty) a b, λ none. absurd none))) (all s h)
+-- If the branching signature of a state is empty, then its branching signature in the last round was empty, too.
+pub empty_was : (l : Grouped) → IsSystem (system_of l) → (old : Option (List ℕ)) (of : List ℕ)
+    → WasSplit Branching l old of → (s : ℕ) → s < l.states → HasEmptySignature (system_of l) (slice_index of) s
+    → (a : List ℕ) (b : ℕ) → ¬ Was Branching l old s a b
+empty_was l sys None of was s ls none = λ a b h. h
+empty_was l sys (Some old) of was s ls none =
+    empty_before (system_of l) sys (slice_index old) (slice_index of) (λ s t ls lt e. ((was s t ls lt).0 e).0) s ls none
 
--- Suppose that only the empty signature is interned, and that its ID is cached for each state. Then this is still true
--- after the step in which the predecessor index may be built.
-pub still_discarded : (p r : Signed) (l : Grouped) → HasNoSignatures p.blocks.block_ids p.signatures p.cached
-    → MayBuildIndex l Back p r → HasNoSignatures r.blocks.block_ids r.signatures r.cached
-still_discarded p r l discarded (inl same) = rw same discarded
-still_discarded p r l discarded (inr begun) = grind (arith, common_steps, begun, discarded)
+-- If a state has no transition, then its signature is empty for any blocks.
+empty_row : (rel : Relation) (l : Grouped) (s : ℕ) → StepsAreRow l s → row_of s l.places ≡ [] → (old : Option (List ℕ))
+    (a : List ℕ) (b : ℕ) → ¬ Was rel l old s a b
+empty_row rel l s steps empty None a b was = was
+empty_row Strong l s steps empty (Some old) a b was = no_step l s steps empty a was.0 was.1
+empty_row Branching l s steps empty (Some old) a b (u, t, ([], here), step, at, other) =
+    no_step l s steps empty a t (subst (λ x. Step (system_of l) x a t) (sym here) step)
+empty_row Branching l s steps empty (Some old) a b (u, t, (v ∷ us, on), step, at, other) =
+    no_step l s steps empty internal v on.0.0
+
+-- Suppose that each state is active (processed by the round), is in a singleton block, or has no transition. Then each
+-- state that is neither active nor in a singleton block has the same signature as in the last round, namely the empty
+-- signature.
+pub all_active_as_before : (rel : Relation) (l : Grouped) → ((s : ℕ) → StepsAreRow l s) → (old : Option (List ℕ))
+    (p : RoundBlocks) → AreAllActive l p.block_ids p.active → OthersKeepSignatures rel l old p
+all_active_as_before rel l steps old p all s h = ⊎_map (λ one. one) (⊎_map (λ alone. alone) (λ empty a b.
+    let none = empty_row rel l s (steps s) empty in
+    (λ can. absurd (none (Some p.block_ids) a b can), λ was. absurd (none old a b was)))) (all s h)
 
 -- These lemmas are about the data r of a round: the blocks, the states to process, the signatures, and the predecessor
 -- index. They assume that r is ready for computing branching signatures (`IsReadyToSign`).
@@ -73,9 +82,6 @@ module _ (l : Grouped) (labelled : Labelled l) (sys : IsSystem (system_of l)) (o
   abbrev active : List ℕ
   active = r.blocks.active
 
-  keeps : CachesIds l of r.signatures r.cached old
-  keeps = ready.cached refl
-
   -- Each state is active (processed by the round), is in a singleton block, or has the ID of its present signature in
   -- the cache.
   active_or_cached : (s : ℕ) → s < l.states → IsMember active s ⊎ IsSingleton of s
@@ -84,12 +90,9 @@ module _ (l : Grouped) (labelled : Labelled l) (sys : IsSystem (system_of l)) (o
     | inl one ↦ inl one
     | inr (inl alone) ↦ inr (inl alone)
     | inr (inr same) ↦ inr (⊎_map (λ alone. alone) (λ list. record {
-      exactly = λ k b. (
-        λ c. let x = (list.1 k b).0 c in (x.0, (same _ b).1 x.1),
-        λ x. (list.1 k b).1 (x.0, (same _ b).0 x.1),
-      );
+      exactly = λ k b. grind (arith, list.1 k b, same (text_of l.labels k) b);
       ascending = list.0;
-    }) (keeps.each s h))
+    }) ((ready.cached refl).each s h))
   ]
 
   -- The active states are the states that the round processes. If a state shares a block with an active state, then it
@@ -109,77 +112,59 @@ module _ (l : Grouped) (labelled : Labelled l) (sys : IsSystem (system_of l)) (o
       (changed : (s : ℕ) → IsMember active s
       → IsIdIfChanged (slice_index r.cached s) (slice_index cached s) (slice_index signature_ids s))
       (still : (s : ℕ) → IsMember active s ⊎ (slice_index cached s ≡ slice_index r.cached s)) where
-    was_within : (s : ℕ) → s < l.states → slice_index r.cached s < length r.signatures
-    was_within s h = keeps.signature_ids s 0 (omega (arith, h, keeps.states))
+    within : (s : ℕ) → s < l.states → slice_index r.cached s < length r.signatures
+    within s h = let keeps = ready.cached refl in keeps.signature_ids s 0 (omega (arith, h, keeps.states))
 
     -- A signature that was cached before the round keeps its ID when the signatures of the round are interned.
     same_list : (s : ℕ) → s < l.states → list_at signatures (slice_index r.cached s) ≡ list_of r.signatures r.cached s
-    same_list s h = grow.same (slice_index r.cached s) (was_within s h)
+    same_list s h = grow.same (slice_index r.cached s) (within s h)
 
-    -- Let s be an active state, which is a state that the round processes. Suppose that the cache has the signature of
-    -- s from the last round. Then the new cached ID of s equals the old cached ID if and only if the signature of s has
-    -- not changed since the last round.
-    unchanged : (s : ℕ) → s < l.states → IsMember active s
-        → IsListOf l (Was Branching l old s) (list_of r.signatures r.cached s)
-        → (slice_index r.cached s ≡ slice_index cached s) ↔ IsAsBefore Branching l old of s
-    unchanged s h one was =
-        let told = equal_represented l _ _ (list_of signatures cached s) (list_of r.signatures r.cached s)
-        (label_id_of l labelled Branching (slice_index of) s) (was_label_id l labelled Branching old s)
-        ((signed s one).ascending, (signed s one).exactly) was in
-        let apart = are.different (slice_index r.cached s) (slice_index cached s) in
-        grind (arith, told, same_list s h, apart, was_within s h, grow.longer, each s 0, states)
+    -- In the following lemmas, s is an active state, which is a state that the round processes, and the cache has the
+    -- signature of s from the last round.
+    module _ (s : ℕ) (h : s < l.states) (one : IsMember active s)
+        (was : IsListOf l (Was Branching l old s) (list_of r.signatures r.cached s)) where
+      -- The new cached ID of s equals the old cached ID if and only if the signature of s has not changed since the
+      -- last round.
+      unchanged : (slice_index r.cached s ≡ slice_index cached s) ↔ IsAsBefore Branching l old of s
+      unchanged =
+          let told = equal_represented l _ _ (list_of signatures cached s) (list_of r.signatures r.cached s)
+          (label_id_of l labelled Branching (Some of) s) (label_id_of l labelled Branching old s)
+          ((signed s one).ascending, (signed s one).exactly) was in
+          let apart = are.different (slice_index r.cached s) (slice_index cached s) in
+          grind (arith, told, same_list s h, apart, within s h, grow.longer, each s 0, states)
 
-    -- If the new signature of an active state (a state that the round processes) is empty, then the signature of this
-    -- state was empty in the last round, too.
-    empty_still : (s : ℕ) → s < l.states → IsMember active s → list_of signatures cached s ≡ []
-        → IsAsBefore Branching l old of s
-    empty_still s h one nil a b =
-        (λ can. absurd (shows a b can), λ can. absurd (empty_was l sys old of ready.split s h shows a b can))
-      where
-        shows : HasEmptySignature (system_of l) (slice_index of) s
-        shows a b can =
-            let (k, number) = label_id_of l labelled Branching (slice_index of) s a b can in
-            let c = ((signed s one).exactly k b).1 (number.below, rw number.text can) in
-            absurd (omega (arith, (rw nil at c).1))
+      -- If the new signature of s is empty, then the signature of s was empty in the last round, too.
+      empty_still : list_of signatures cached s ≡ [] → IsAsBefore Branching l old of s
+      empty_still nil a b =
+          let shows : HasEmptySignature (system_of l) (slice_index of) s = λ a b can.
+          let (k, number) = label_id_of l labelled Branching (Some of) s a b can in
+          let c = ((signed s one).exactly k b).1 (number.below, rw number.text can) in
+          omega (arith, (rw nil at c).1) in
+          (λ can. absurd (shows a b can), λ can. absurd (empty_was l sys old of ready.split s h shows a b can))
 
-    -- The split signature of a state is empty if its signature has not changed since the last round, and otherwise it
-    -- is the new signature. Let s be an active state, which is a state that the round processes. Suppose that the cache
-    -- has the signature of s from the last round. Then `signature_ids` has the ID of the split signature of s
-    -- (`IsSplitSignature`).
-    split_id : (s : ℕ) → s < l.states → IsMember active s
-        → IsListOf l (Was Branching l old s) (list_of r.signatures r.cached s)
-        → IsSplitSignature Branching l old of s (list_of signatures signature_ids s)
-    split_id s h one was = let same = unchanged s h one was in elim (changed s one) [
-      | inl (is, zero) ↦ inl (ap (list_at signatures) zero ∙ are.first, same.0 is)
-      | inr (other, now) ↦ rw now (inr (
-        λ nil. other (same.1 (empty_still s h one nil)),
-        λ is. other (same.1 is),
-        signed s one,
-      ))
-    ]
+      -- The split signature of a state is empty if its signature has not changed since the last round, and otherwise it
+      -- is the new signature. The list `signature_ids` has the ID of the split signature of s (`IsSplitSignature`).
+      split_id : IsSplitSignature Branching l old of s (list_of signatures signature_ids s)
+      split_id = elim (changed s one) [
+        | inl (is, zero) ↦ inl (ap (list_at signatures) zero ∙ are.first, unchanged.0 is)
+        | inr (other, now) ↦
+            rw now (inr (λ nil. other (unchanged.1 (empty_still nil)), λ is. other (unchanged.1 is), signed s one))
+      ]
 
     -- For each state that is not in a singleton block, the new cached ID is the ID of the signature of this state.
     cached_now : (s : ℕ) → s < l.states → IsSingleton of s ⊎ IsSignature Branching l of s (list_of signatures cached s)
     cached_now s h = grind (arith, common_steps, still s, active_or_cached s h, signed s, same_list s h)
 
     -- The split signature of a state is empty if its signature has not changed since the last round, and otherwise it
-    -- is the new signature. Suppose that the empty signature (ID 0) was cached for an active state, which is a state
-    -- that the round processes. Then the split signature of this state equals its new signature.
-    first_shown : (s : ℕ) → IsMember active s → slice_index r.cached s ≡ 0
-        → IsSignature Branching l of s (list_of signatures signature_ids s)
-    first_shown s one zero = grind (arith, common_steps, changed s one, signed s one)
-
-    -- The split signature of a state is empty if its signature has not changed since the last round, and otherwise it
     -- is the new signature. For each state outside singleton blocks, `signature_ids` has the ID of its split signature.
     -- The new signatures of all states are cached for the next round (`SignsEach`).
     pub branching_signs : SignsEach Branching l old
         (record r { signatures = signatures; cached = cached; signature_ids = signature_ids })
-    branching_signs = record {
+    branching_signs = let keeps = ready.cached refl in record {
       split = ready.split;
-      each = split_signature_each Branching l old of active signatures signature_ids are.first have none (λ s one.
-          let h : s < l.states = omega (arith, rises.below one.0 one.1, one.2) in
-          ⊎_map (λ alone. alone) (split_id s h one) (keeps.each s h)) ready.others;
-      first = λ none s one. first_shown s one (ready.empty refl none s);
+      each = λ s h. let given = λ (one : IsMember active s). ⊎_map (λ x. x) (split_id s h one) (keeps.each s h) in
+          grind (arith, ready.others s h, none s, given, have, are.first);
+      first = λ none s one. grind (arith, common_steps, changed s one, signed s one, ready.empty refl none s);
       cached = λ branching. record {
         states = states;
         signature_ids = each;

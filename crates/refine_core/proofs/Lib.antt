@@ -1,14 +1,10 @@
 pub mod CallerLemmas
-pub mod EqualLists
 pub mod Showing
 pub mod Spending
-pub mod StrongRow
 pub mod Signatures
 pub mod ActiveStates
 pub mod Finding
 pub mod Searching
 pub mod IndexStates
 pub mod Indexing
-pub mod EnoughActive
 pub mod CachedSignatures
-pub mod Rounding

@@ -1,28 +1,69 @@
--- Proofs about the signatures by which a split separates states (the split signatures). The split signature of a state
--- is empty if its signature has not changed since the last round, and otherwise it is its new signature. If blocks are
--- split by the split signatures, the result is the same as for a split by the signatures.
-use Rattle.std.proofs.Common.{◌≡◌, ◌⊎◌, ◌↔◌, ◌∙◌, ℕ, ◌<◌, ◌≤◌, List, [], length, slice_index, Option, None, Some}
-use Rattle.std.proofs.Common.{sym, subst, refl, inl, inr, arith}
+-- Signatures are stored as lists of pairs in ascending order. Two signatures are equal if and only if their lists are
+-- equal. A split separates states by their split signatures. The split signature of a state is empty if its signature
+-- has not changed since the last round, and otherwise it is its new signature. If blocks are split by the split
+-- signatures, the result is the same as for a split by the signatures.
+use Rattle.std.proofs.Common.{◌≡◌, ◌↔◌, ℕ, List, Option, None, Some, slice_index, subst, sym, arith, ◌⊎◌, ◌∙◌, ◌<◌, ◌≤◌}
+use Rattle.std.proofs.Common.{[], length, refl, inl, inr}
 use Rattle.std.proofs.lemmas.Grind.{common_steps}
-use Rattle.theory.specs.System.{IsSystem, Step}
+use Rattle.theory.specs.System.{Step, IsSystem}
 use Rattle.theory.specs.declared.relation.Relation.{Relation}
 use Rattle.theory.specs.declared.relation.Relation.TheVariants.{Strong, Branching}
 use Rattle.theory.specs.Blocks.{SameSignature, Split}
 use Rattle.theory.proofs.CallerLemmas.{step_below}
+use Rattle.lts.specs.Labels.{text_of, IsLabelId}
 use Rattle.lts.specs.Lts.{Grouped, system_of}
+use Rattle.signatures.proofs.CallerLemmas.{rising_unique, rising_none}
 use Rattle.signatures.specs.Lists.{pair_cmp, list_at}
-use Rattle.signatures.proofs.CallerLemmas.{rising_none}
 use Rattle.partition.specs.Splitting.{IsSingleton}
 use Rattle.partition.specs.Blocks.{IsMember, InactiveHaveNone}
 use Rattle.inert.specs.Signed.{IsSignature}
-use Rattle.refine_core.specs.Signatures.{Signed, list_of}
-use Rattle.refine_core.specs.IndexState.{IsReadyToSign, SignsEach}
+use Rattle.refine_core.specs.Cached.{IsListOf}
 use Rattle.refine_core.specs.Shown.{Was, IsAsBefore, IsSplitSignature, IsStrongSplitSignature, Follows, WasSplit}
 use Rattle.refine_core.specs.Shown.{IsUnaffected}
-use Rattle.refine_core.proofs.EqualLists.{Labelled, equal_lists}
+use Rattle.refine_core.specs.Signatures.{Signed, list_of}
+use Rattle.refine_core.specs.IndexState.{IsReadyToSign, SignsEach}
 
-pub not_both : ¬ (Strong ≡ Branching)
-not_both is = cc
+-- `Labelled` holds if the label of each step of the system is in the label table.
+abbrev pub Labelled : Grouped → Type 0
+Labelled l = (s : ℕ) (a : List ℕ) (t : ℕ) → Step (system_of l) s a t → (k : ℕ) × IsLabelId l.labels k a
+
+-- `HasLabels` holds if the label table contains the label a of each pair (a, b) for which the predicate `has` holds.
+-- The predicate `has` stands for a set of pairs (label, block).
+abbrev HasLabels : Grouped → (List ℕ → ℕ → Type 0) → Type 0
+HasLabels l has = (a : List ℕ) (b : ℕ) → has a b → (k : ℕ) × IsLabelId l.labels k a
+
+-- If the label of each step is in the label table, then each label in a signature of the last round is in the label
+-- table.
+pub label_id_of : (l : Grouped) → Labelled l → (rel : Relation) (old : Option (List ℕ)) (s : ℕ)
+    → HasLabels l (Was rel l old s)
+label_id_of l labelled rel None s a b h = absurd h
+label_id_of l labelled Strong (Some old) s a b h = labelled s a h.0 h.1
+label_id_of l labelled Branching (Some old) s a b h = labelled h.0 a h.1 h.3
+
+carried_over : (l : Grouped) (P Q : List ℕ → ℕ → Type 0) (xs : List (ℕ × ℕ)) → HasLabels l P → IsListOf l P xs
+    → IsListOf l Q xs → (a : List ℕ) (b : ℕ) → P a b → Q a b
+carried_over l P Q xs labelled of_p of_q a b h = let (k, number) = labelled a b h in
+    rw number.text at ((of_q.1 k b).0 ((of_p.1 k b).1 (number.below, rw number.text h))).1
+
+-- Suppose that the list xs represents the set of pairs P, and that the list ys represents the set of pairs Q
+-- (`IsListOf`). Then xs and ys are equal if and only if P and Q have the same pairs.
+pub equal_represented : (l : Grouped) (P Q : List ℕ → ℕ → Type 0) (xs ys : List (ℕ × ℕ)) → HasLabels l P → HasLabels l Q
+    → IsListOf l P xs → IsListOf l Q ys → (xs ≡ ys) ↔ ((a : List ℕ) (b : ℕ) → P a b ↔ Q a b)
+equal_represented l P Q xs ys in_p in_q of_p of_q = (
+  λ e a b. let is = subst (IsListOf l Q) (sym e) of_q in
+      (carried_over l P Q xs in_p of_p is a b, carried_over l Q P xs in_q is of_p a b),
+  λ same. rising_unique xs ys of_p.0 of_q.0 (λ z. let is = same (text_of l.labels z.0) z.1 in
+      grind (arith, of_p.1 z.0 z.1, of_q.1 z.0 z.1, is)),
+)
+
+-- If the lists xs and ys represent the signatures of the states s and t, then xs and ys are equal if and only if the
+-- signatures of s and t are equal.
+pub equal_lists : (rel : Relation) (l : Grouped) (labelled : Labelled l) (blocks : List ℕ) (s t : ℕ)
+    (xs ys : List (ℕ × ℕ)) → IsSignature rel l blocks s xs → IsSignature rel l blocks t ys
+    → (xs ≡ ys) ↔ SameSignature rel (system_of l) (slice_index blocks) s t
+equal_lists rel l labelled blocks s t xs ys of_s of_t =
+    equal_represented l _ _ xs ys (label_id_of l labelled rel (Some blocks) s)
+    (label_id_of l labelled rel (Some blocks) t) (of_s.ascending, of_s.exactly) (of_t.ascending, of_t.exactly)
 
 -- If two states share a block, then their signatures in the last round were equal. Before the first round, all
 -- signatures are taken to be empty.
@@ -66,8 +107,7 @@ module _ (rel : Relation) (l : Grouped) (labelled : Labelled l) (old : Option (L
     λ h a b. grind (arith, p.1 a b, q.1 a b, was_alike rel l old of was s t ls lt one a b),
     λ h. p.0 ∙ sym q.0,
   )
-  told s t ls lt one (inr (inl p)) (inr (inr q)) =
-      (λ h. absurd (q.0 (sym h ∙ p.0)), λ h. absurd (differ s t ls lt one p.1 q.1 h))
+  told s t ls lt one (inr (inl p)) (inr (inr q)) = grind (arith, p.0, q.0, differ s t ls lt one p.1 q.1)
   told s t ls lt one (inr (inr p)) (inr (inl q)) =
       (λ h. absurd (p.0 (h ∙ q.0)), λ h. absurd (differ t s lt ls (sym one) q.1 p.1 (λ a b. ((h a b).1, (h a b).0))))
   told s t ls lt one (inr (inr p)) (inr (inr q)) = equal_lists rel l labelled of s t _ _ p.2 q.2
@@ -80,35 +120,8 @@ module _ (rel : Relation) (l : Grouped) (labelled : Labelled l) (old : Option (L
       → (next s ≡ next t) ↔ ((slice_index of s ≡ slice_index of t) × (shown s ≡ shown t)))
       → Split rel (system_of l) (slice_index of) next
   split_by_split_signatures each next split s t ls lt =
-      let tells = λ (one : slice_index of s ≡ slice_index of t). told s t ls lt one (each s ls) (each t lt) in (
-        λ e. let h = (split s t ls lt).0 e in (h.0, (tells h.0).0 h.1),
-        λ h. (split s t ls lt).1 (h.0, (tells h.0).1 h.1),
-      )
-
--- The split signature of a state is empty if its signature has not changed since the last round, and otherwise it is
--- the new signature. If no round has run yet, then the split signature of a state equals its signature.
-pub split_signature_first : (rel : Relation) (l : Grouped) (of : List ℕ) (s : ℕ) (list : List (ℕ × ℕ))
-    → IsSplitSignature rel l None of s list → IsSignature rel l of s list
-split_signature_first rel l of s list (inl p) = rw p.0 (record {
-  exactly = λ k b. (λ c. absurd (omega (arith, c.1)), λ h. absurd ((p.1 _ b).0 h.1));
-  ascending = rising_none pair_cmp;
-})
-split_signature_first rel l of s list (inr p) = p.2
-
--- The split signature of a state is empty if its signature has not changed since the last round, and otherwise it is
--- the new signature. Suppose that `signature_ids` has the ID of the split signature for each active state (each state
--- that the round processes), and the ID of the empty signature for each other state. Suppose also that each state is
--- active, is in a singleton block, or has the same signature as in the last round. Then `signature_ids` has the ID of
--- the split signature for each state outside singleton blocks.
-pub split_signature_each : (rel : Relation) (l : Grouped) (old : Option (List ℕ)) (of active : List ℕ)
-    (signatures : List (List (ℕ × ℕ))) (signature_ids : List ℕ) → list_at signatures 0 ≡ [] → length signature_ids
-    ≡ l.states → InactiveHaveNone active signature_ids
-    → ((s : ℕ) → IsMember active s
-    → IsSingleton of s ⊎ IsSplitSignature rel l old of s (list_of signatures signature_ids s))
-    → ((s : ℕ) → s < l.states → IsMember active s ⊎ IsSingleton of s ⊎ IsAsBefore rel l old of s)
-    → (s : ℕ) → s < l.states → IsSingleton of s ⊎ IsSplitSignature rel l old of s (list_of signatures signature_ids s)
-split_signature_each rel l old of active signatures signature_ids first size none given others s ls =
-    grind (arith, others s ls, none s, given s, size, first)
+      let tells = λ (one : slice_index of s ≡ slice_index of t). told s t ls lt one (each s ls) (each t lt) in
+      grind (arith, split s t ls lt, tells)
 
 -- The condition `Follows` implies the condition `WasSplit`: the blocks `of` result from splitting the blocks `old` of
 -- the last round by signatures.
@@ -143,18 +156,21 @@ affected_changed l sys (Some old) of low follows s a t step new same =
 -- signature, and that each other state has the ID of the empty signature. Then the round has computed the signatures
 -- correctly (`SignsEach`).
 pub strong_signs : (l : Grouped) (old : Option (List ℕ)) (r : Signed) → IsReadyToSign Strong l old r
-    → (signatures : List (List (ℕ × ℕ))) (signature_ids : List ℕ) → list_at signatures 0 ≡ [] → length signature_ids
-    ≡ l.states
-    → InactiveHaveNone r.blocks.active signature_ids
+    → (signatures : List (List (ℕ × ℕ))) (signature_ids : List ℕ) → list_at signatures 0 ≡ []
+    → length signature_ids ≡ l.states → InactiveHaveNone r.blocks.active signature_ids
     → ((s : ℕ) → IsMember r.blocks.active s → IsStrongSplitSignature l r.blocks.block_ids r.blocks.first_new s
     (list_of signatures signature_ids s))
     → SignsEach Strong l old (record r { signatures = signatures; signature_ids = signature_ids })
 strong_signs l old r ready signatures signature_ids first size none put =
     let given = λ (s : ℕ) (one : IsMember r.blocks.active s). put s one old (ready.follows refl) in record {
       split = ready.split;
-      each = split_signature_each Strong l old r.blocks.block_ids r.blocks.active signatures signature_ids first size
-          none
-          (λ s one. inr (given s one)) ready.others;
-      first = λ is s one. split_signature_first Strong l r.blocks.block_ids s _ (rw is at (given s one));
-      cached = λ is. absurd (not_both is);
+      each = λ s ls. grind (arith, ready.others s ls, none s, given s, size, first);
+      first = λ is s one. elim (rw is at (given s one)) [
+        | inl same ↦ rw same.0 (record {
+          exactly = λ k b. grind (arith, same.1 (text_of l.labels k) b);
+          ascending = rising_none pair_cmp;
+        })
+        | inr changed ↦ changed.2
+      ];
+      cached = λ is. absurd cc;
     }

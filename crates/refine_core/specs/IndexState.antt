@@ -22,6 +22,13 @@ abbrev pub AreAllActive : Grouped → List ℕ → List ℕ → Type 0
 AreAllActive l blocks active = (s : ℕ) → s < l.states → IsMember active s ⊎ IsSingleton blocks s
     ⊎ (row_of s l.places ≡ [])
 
+-- `OthersKeepSignatures` holds if each state is active (processed by the round), is in a singleton block, or has the
+-- same signature as in the last round (`IsAsBefore`). The record p has the blocks and the active states, and the list
+-- `old` has the block IDs in the last round.
+abbrev pub OthersKeepSignatures : Relation → Grouped → Option (List ℕ) → RoundBlocks → Type 0
+OthersKeepSignatures rel l old p = (s : ℕ) → s < l.states → IsMember p.active s ⊎ IsSingleton p.block_ids s
+    ⊎ IsAsBefore rel l old p.block_ids s
+
 -- `HasIndex` holds if `e` has a predecessor index of the system `l`. A search in this index must go back along
 -- transitions as far as the relation `rel`, strong or branching bisimilarity, requires (`reach_of`).
 pub record HasIndex (rel : Relation) (l : Grouped) (of : List ℕ) (e : SearchIndex) : Type 0 where
@@ -43,19 +50,25 @@ pub record Restarts (l : Grouped) (p : RoundBlocks) (signatures : List (List (�
   pub all : AreAllActive l p.block_ids p.active
   pub discarded : HasNoSignatures p.block_ids signatures cached
 
+-- `RestartsOrSearches` is about r, the data of a round (`Signed`), if there is a predecessor index. Either the round
+-- processes all states again (`Restarts`), or a search of this index is pending, which will find the states that the
+-- round processes. If the search is pending, a round must have run before, and `old` has the block IDs in that round.
+-- For branching bisimilarity, the signatures of that round must then be cached.
+abbrev pub RestartsOrSearches : IndexState → Relation → Grouped → Option (List ℕ) → Signed → Type 0
+RestartsOrSearches Absent rel l old r = Unit {0}
+RestartsOrSearches (Searched e) rel l old r = Restarts l r.blocks r.signatures r.cached
+RestartsOrSearches (Pending e) rel l old r =
+    ¬ (old ≡ None) × (rel ≡ Branching → CachesIds l r.blocks.block_ids r.signatures r.cached old)
+
 -- `Awaits` holds if r, the data of a round (`Signed`), is ready for a new round. The blocks of r must result from the
--- blocks `old` of the last round (`Follows`). If there is a predecessor index, there are two cases. Either a search of
--- this index is pending, which will find the states that the round processes, or the round processes all states again
--- (`Restarts`). If the search is pending, a round must have run before. For branching bisimilarity, the signatures of
--- that round must then be cached.
+-- blocks `old` of the last round (`Follows`). If there is a predecessor index, a search of this index must be pending,
+-- or the round must process all states again (`RestartsOrSearches`). If there is no predecessor index, all states must
+-- be active unless their signatures cannot change a block (`AreAllActiveOrIndexed`).
 pub record Awaits (rel : Relation) (l : Grouped) (r : Signed) : Type 0 where
   pub old : Option (List ℕ)
   pub follows : Follows rel l old r.blocks.block_ids r.blocks.first_new
   pub index : AreAllActiveOrIndexed r.index_state rel l r.blocks
-  pub restarts : (e : SearchIndex) → r.index_state ≡ Searched e → Restarts l r.blocks r.signatures r.cached
-  pub ran : (e : SearchIndex) → r.index_state ≡ Pending e → ¬ (old ≡ None)
-  pub cached : rel ≡ Branching → (e : SearchIndex) → r.index_state ≡ Pending e
-      → CachesIds l r.blocks.block_ids r.signatures r.cached old
+  pub next : RestartsOrSearches r.index_state rel l old r
 
 -- `IsReadyToSign` holds if r, the data of a round (`Signed`), is ready for computing the signatures of the active
 -- states, which are the states that the round processes. The list `old` has the block IDs in the last round, and the
@@ -66,8 +79,7 @@ pub record Awaits (rel : Relation) (l : Grouped) (r : Signed) : Type 0 where
 -- signatures must be empty.
 pub record IsReadyToSign (rel : Relation) (l : Grouped) (old : Option (List ℕ)) (r : Signed) : Type 0 where
   pub split : WasSplit rel l old r.blocks.block_ids
-  pub others : (s : ℕ) → s < l.states → IsMember r.blocks.active s ⊎ IsSingleton r.blocks.block_ids s
-      ⊎ IsAsBefore rel l old r.blocks.block_ids s
+  pub others : OthersKeepSignatures rel l old r.blocks
   pub follows : rel ≡ Strong → Follows rel l old r.blocks.block_ids r.blocks.first_new
   pub cached : rel ≡ Branching → CachesIds l r.blocks.block_ids r.signatures r.cached old
   pub empty : rel ≡ Branching → old ≡ None → (s : ℕ) → slice_index r.cached s ≡ 0
@@ -126,18 +138,14 @@ IsNotPending (Pending e) = ⊥
 abbrev pub SearchesIfPending : Grouped → Signed → Signed → Type 0
 SearchesIfPending l p r = (IsNotPending p.index_state × (r ≡ p)) ⊎ HasSearched l p r
 
--- `HasDropped` holds if the data r of the round results from its earlier data p by dropping some states in singleton
--- blocks from the active states (the states that the round processes). There must be no predecessor index.
-pub record HasDropped (p r : Signed) : Type 0 where
-  pub absent : p.index_state ≡ Absent
+-- `MayDropSingletons` holds if the data r of the round equals its earlier data p, or results from p by dropping some
+-- states in singleton blocks from the active states (the states that the round processes). If states are dropped, there
+-- must be no predecessor index.
+pub record MayDropSingletons (p r : Signed) : Type 0 where
   pub same : r ≡ record p { blocks = r.blocks; signature_ids = r.signature_ids }
   pub blocks : r.blocks ≡ record p.blocks { active = r.blocks.active }
-  pub leaves : DropsSingletons p.blocks.block_ids p.blocks.active r.blocks.active
-
--- `MayDropSingletons` holds if the data r of the round equals its earlier data p, or results from p by dropping some
--- states in singleton blocks from the active states (the states that the round processes).
-abbrev pub MayDropSingletons : Signed → Signed → Type 0
-MayDropSingletons p r = (r ≡ p) ⊎ HasDropped p r
+  pub leaves : (r ≡ p) ⊎ ((p.index_state ≡ Absent)
+      × DropsSingletons p.blocks.block_ids p.blocks.active r.blocks.active)
 
 -- `SignsEach` holds if the round has computed the signatures of the active states, which are the states that it
 -- processes. The split signature of a state is empty if its signature has not changed since the last round, and

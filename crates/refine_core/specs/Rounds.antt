@@ -1,5 +1,5 @@
 -- Definitions for one round of refinement and for the state of refinement after several rounds.
-use Rattle.std.specs.Prelude.{◌≡◌, ℕ, ◌*◌, ◌^◌, ◌<◌, ◌≤◌, List, [], ◌∷◌, length, slice_index}
+use Rattle.std.specs.Prelude.{◌≡◌, ◌↔◌, ℕ, ◌*◌, ◌^◌, ◌<◌, ◌≤◌, List, [], ◌∷◌, length, slice_index}
 use Rattle.theory.specs.declared.relation.Relation.{Relation}
 use Rattle.theory.specs.System.{System}
 use Rattle.theory.specs.Blocks.{Split, SameBlocks, OneBlock, Underway}
@@ -24,8 +24,7 @@ pub record IsNextRound (rel : Relation) (l : Grouped) (of : List ℕ) (count : �
   pub grows : count ≤ q.blocks.count
   pub stays : (s : ℕ) → s < l.states → slice_index q.blocks.block_ids s < count →
       slice_index q.blocks.block_ids s ≡ slice_index of s
-  pub same : q.blocks.count ≡ count → SameBlocks (system_of l) (slice_index of) (slice_index q.blocks.block_ids)
-  pub parted : ¬ (q.blocks.count ≡ count) → ¬ SameBlocks (system_of l) (slice_index of) (slice_index q.blocks.block_ids)
+  pub same : (q.blocks.count ≡ count) ↔ SameBlocks (system_of l) (slice_index of) (slice_index q.blocks.block_ids)
 
 -- `AreRounds` holds if a sequence of splits leads from the partition with only one block to the partition `now`. The
 -- list `past` has the partition before each split, and its first element is the partition before the last split.
@@ -44,13 +43,13 @@ pub record RenumbersFew (rel : Relation) (A : System) (blocks : List ℕ) : Type
   pub few : (s : ℕ) → s < A.states → 2 ^ renumberings last past s ≤ A.states
 
 -- `Made` holds if some rounds, which started with only one block, have led to the partition `blocks`. Each of these
--- rounds must have split at least one block. In each round, the number of visits (counted reads of transitions) must
--- equal the number of transitions. The meter had the counts `old` before the first round, and has the counts `at` after
--- the last round.
+-- rounds must have split at least one block, and there must be fewer rounds than states. In each round, the number of
+-- visits (counted reads of transitions) must equal the number of transitions. The meter had the counts `old` before the
+-- first round, and has the counts `at` after the last round.
 pub record Made (rel : Relation) (l : Grouped) (old at : Counts) (blocks : List ℕ) : Type 0 where
   pub rounds : ℕ
+  pub fewer : rounds < l.states
   pub past : List (List ℕ)
-  pub were : AreRounds rel (system_of l) blocks past
-  pub halved : WereHalved blocks past
+  pub were : AreRounds rel (system_of l) blocks past × WereHalved blocks past
   pub underway : Underway rel (system_of l) rounds (slice_index blocks)
   pub costs : Costs old at rounds (rounds * length l.places) (rounds * length l.places)

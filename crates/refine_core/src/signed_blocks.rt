@@ -9,7 +9,7 @@ ghost use Rattle.refine_core.specs.Signatures.{HaveSignatures, FitsIndexState, H
 ghost use Rattle.refine_core.specs.IndexState.{AreAllActive, ActivatesAll, IsSplitOf, MayBuildIndex, SearchesIfPending};
 ghost use Rattle.refine_core.specs.IndexState.{MayDropSingletons};
 ghost use Rattle.refine_core.specs.Index.{SearchIndex, IsSearchIndex, HasVisited};
-ghost use Rattle.refine_core.specs.declared.signed_blocks.IndexState.TheVariants.{Absent, Searched, Pending};
+ghost use Rattle.refine_core.specs.declared.signed_blocks.IndexState.TheVariants.{Absent, Pending};
 ghost use Rattle.lts.specs.Meter.{HasRoomFor, Costs};
 
 use crate::predecessors::{Predecessors, Reach};

@@ -1,6 +1,6 @@
 use Rattle.std.proofs.Common.{◌∙◌, length, ap, rules}
-use Rattle.refine_core.proofs.EqualLists.{Labelled}
-use Rattle.refine_core.proofs.Rounding.{is_next}
+use Rattle.refine_core.proofs.Showing.{Labelled}
+use Rattle.refine_core.proofs.IndexStates.{is_next}
 use Rattle.refine_core.proofs.Spending.{begun_up_to}
 use Rattle.refine_core.proofs.refinement.next_round.Goals as goal
 

@@ -6,28 +6,20 @@ use Rattle.refine_core.proofs.refinement.refine.Goals as goal
 
 pub returns-clause-bisimilar : goal.returns-clause-bisimilar
 returns-clause-bisimilar g c =
-    IfOk-weaker c.renumber.result _ _
-    (λ p same s t ls lt. grind (
-      arith,
-      same s t,
-      c.in_ok-blocks.ensures.bisimilar s t,
-      c.block_ids.ensures.block_ids,
-      c.in_ok-blocks.ensures.states,
-    )) c.renumber.ensures.same
+    let of = c.in_ok-blocks.ensures in
+    let ids = c.block_ids.ensures.block_ids in
+    IfOk-weaker c.renumber.result _ _ (λ p same s t ls lt. grind (arith, same s t, of.bisimilar s t, ids, of.states))
+    c.renumber.ensures.same
 
 pub returns-clause-few : goal.returns-clause-few
-returns-clause-few g c = let few = c.in_ok-blocks.ensures.few in
-    IfOk-weaker c.renumber.result _ (RenumbersFew g.S.Signing.relation (system_of c.args.l.now))
-    (λ p same. record {
+returns-clause-few g c =
+    let of = c.in_ok-blocks.ensures in
+    let few = of.few in
+    let ids = c.block_ids.ensures.block_ids in
+    IfOk-weaker c.renumber.result _ (RenumbersFew g.S.Signing.relation (system_of c.args.l.now)) (λ p same. record {
       last = few.last;
       past = few.past;
       rounds = few.rounds;
-      same = λ s t ls lt. grind (
-        arith,
-        same s t,
-        few.same s t,
-        c.block_ids.ensures.block_ids,
-        c.in_ok-blocks.ensures.states,
-      );
+      same = λ s t ls lt. grind (arith, same s t, few.same s t, ids, of.states);
       few = few.few;
     }) c.renumber.ensures.same

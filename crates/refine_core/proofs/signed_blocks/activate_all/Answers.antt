@@ -1,4 +1,4 @@
-use Rattle.std.proofs.Common.{◌∙◌, length, ap, refl, sym, arith}
+use Rattle.std.proofs.Common.{rules, ◌∙◌, length, ap, refl, sym, arith}
 use Rattle.refine_core.proofs.Signatures.{emptied}
 use Rattle.refine_core.proofs.signed_blocks.activate_all.Goals as goal
 
@@ -14,7 +14,4 @@ invariant_of-result g c =
 
 pub returns-clause-activates : goal.returns-clause-activates
 returns-clause-activates g c = let discarded = rw (sym c.round.view_is) at c.in_ok-round.ensures.discarded in
-    rw c.with_active-blocks.ensures.same (record {
-      index_state = refl;
-      restarts = record { all = c.in_ok-active.ensures.others; discarded = discarded };
-    })
+    rw c.with_active-blocks.ensures.same (search (rules, discarded))

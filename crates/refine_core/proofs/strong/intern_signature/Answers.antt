@@ -2,8 +2,7 @@ use Rattle.std.proofs.Common.{◌≡◌, ◌∙◌}
 use Rattle.signatures.specs.Lists.{list_at}
 use Rattle.std.proofs.lemmas.Bool.{iff_false}
 use Rattle.std.proofs.lemmas.Result.{IfOk-weaker}
-use Rattle.refine_core.specs.Shown.{IsStrongSplitSignature}
-use Rattle.refine_core.proofs.StrongRow.{row_affected, row_unaffected}
+use Rattle.refine_core.proofs.ActiveStates.{row_affected, row_unaffected}
 use Rattle.refine_core.proofs.strong.intern_signature.Goals as goal
 
 pub returns-then-not-branch-clause-put : goal.returns-then-not-branch-clause-put
@@ -20,9 +19,8 @@ returns-clause-put g c =
     let read = c.in_ok-read_unvisited.ensures in
     let put = row_affected l c.args.under.now.block_ids.now c.args.s c.invariants.ensures
     (c.rows_are_steps.ensures.sources c.args.s l.places) (c.rows_are_steps.ensures.steps l c.args.s)
-    c.args.under.now.first_new c.order.new.pairs.items c.order.ensures.ascending (rw read.pairs at c.order.ensures.same)
-    (rw read.pairs at (read.affected.0 c.if-not-branch.false)) in
-    IfOk-weaker c.push.result (λ k. list_at c.push.new.self k ≡ c.deref.result.now)
-    (λ k. IsStrongSplitSignature l c.args.under.now.block_ids.now c.args.under.now.first_new c.args.s
-    (list_at c.push.new.self k))
-    (λ k at. rw (at ∙ c.deref.ensures.value) put) c.push.ensures.list
+    c.order.new.pairs.items c.order.ensures.ascending (rw read.pairs at c.order.ensures.same)
+    c.args.under.now.first_new (rw read.pairs at (read.affected.0 c.if-not-branch.false)) in
+    IfOk-weaker c.push.result _ _
+    (λ k (at : list_at c.push.new.self k ≡ c.deref.result.now). rw (at ∙ c.deref.ensures.value) put)
+    c.push.ensures.list

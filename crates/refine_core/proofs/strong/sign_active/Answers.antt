@@ -1,28 +1,23 @@
-use Rattle.std.proofs.lemmas.List.{length-set}
-use Rattle.std.proofs.Common.{sym, ◌∙◌, ◌≡◌, ◌≤◌, rules, ◌+◌, ◌<◌, List, length, slice_index, arith}
-use Rattle.lts.specs.Lts.{Triple, before, row_of}
+use Rattle.std.proofs.lemmas.List.{length-set, get_or_default}
+use Rattle.std.proofs.Common.{sym, ◌∙◌, ◌≡◌, ◌≤◌, rules, ◌+◌, ◌<◌, length, slice_index, subst, arith}
+use Rattle.lts.specs.Lts.{before, row_of}
 use Rattle.lts.specs.Visited.{remaining_of}
 use Rattle.lts.proofs.CallerLemmas.{before-mono, before-next, before-le}
-use Rattle.refine_core.specs.Shown.{IsStrongSplitSignature}
-use Rattle.refine_core.proofs.ActiveStates.{signed_more, signed_each, all_ids, inactive_none_more}
+use Rattle.refine_core.proofs.ActiveStates.{signed_more, inactive_none_more}
 use Rattle.refine_core.proofs.strong.sign_active.Goals as goal
 use Rattle.refine_core.proofs.strong.sign_active.Given.{Over}
 use Rattle.refine_core.proofs.strong.sign_active.Goals.{In-loop-i}
 
 -- The loop visits (reads and counts) transitions of the active states, which are the states that the round processes.
--- The list `left` has all transitions that were not yet visited when the loop began, in ascending order of their
--- sources.
 module _ (g : Over) (c : In-loop-i g) where
-  abbrev left : List Triple
-  left = remaining_of c.args.visited.now c.args.under.now.l.now.places
-
   more : c.loop-i.i < length c.args.active.now
   more = omega (arith, c.loop-i-test.true, c.loop-i.auto.i-end)
 
   -- The loop goes through the active states (the states that the round processes) in ascending order. The list `left`
   -- has all transitions that were not yet visited when the loop began, in ascending order of their sources. In this
   -- list, the transitions of the next active state come after all transitions that the loop has visited so far.
-  row : let s = slice_index c.args.active.now c.loop-i.i in (before c.loop-i.invariant.visits.0 left ≤ before s left)
+  row : let left = remaining_of c.args.visited.now c.args.under.now.l.now.places in
+      let s = slice_index c.args.active.now c.loop-i.i in (before c.loop-i.invariant.visits.0 left ≤ before s left)
       × (before (s + 1) left ≡ before s left + length (row_of s left)) × (before (s + 1) left ≤ length left)
   row = search (rules, before-mono, more, before-next, before-le, c.loop-i.invariant.visits)
 
@@ -34,24 +29,18 @@ intern_signature-requires-clause-room g c =
 pub loop-i-preserved : goal.loop-i-preserved
 loop-i-preserved g c =
     let d = (goal.at.loop-i-preserved g c).In-loop-i in
-    let l = c.args.under.now.l.now in
-    let active = c.args.active.now in
     let i = c.loop-i.i in
-    let s = slice_index active i in
     let inv = c.loop-i.invariant in
     let done = c.in_ok-signature_ids.ensures in
+    let rises = c.requires.under.ascending in
     record {
-      put = signed_more _ _ c.loop-i.signature_ids.items active _ i _ c.intern_signature.ensures.grow
-          c.requires.under.ascending
-          inv.states (more g d)
-          (IsStrongSplitSignature l c.args.under.now.block_ids.now c.args.under.now.first_new)
-          inv.put done.within done.put;
+      put = signed_more c.intern_signature.ensures.grow rises inv.states (more g d) inv.put done.within done.put;
       states = length-set _ _ _ ∙ inv.states;
-      none = inactive_none_more c.loop-i.signature_ids.items active i _ (more g d) inv.none;
+      none = inactive_none_more c.loop-i.signature_ids.items c.args.active.now i _ (more g d) inv.none;
       some = omega (arith, inv.some, c.intern_signature.ensures.grow.longer);
       visits = (
-        s + 1,
-        λ j first_new h. omega (arith, c.requires.under.ascending.ascending i j (omega (arith, first_new)) h),
+        slice_index c.args.active.now i + 1,
+        λ j later h. omega (arith, rises.ascending i j (omega (arith, later)) h),
         omega (arith, inv.visits.2, row g d, done.visits),
       );
     }
@@ -68,20 +57,16 @@ returns-clause-cost g c = search (rules, before-le, c.loop-i.invariant.visits)
 -- (`IsStrongSplitSignature`): the empty signature if the signature of the state has not changed, and otherwise the new
 -- signature.
 pub returns-clause-signed : goal.returns-clause-signed
-returns-clause-signed g c =
-    let under = c.args.under.now in
-    let inv = c.loop-i.invariant in
-    signed_each c.loop-i.signatures c.loop-i.signature_ids.items _ inv.none
-    (IsStrongSplitSignature under.l.now under.block_ids.now under.first_new)
-    (λ j h. inv.put j (omega (arith, h, c.loop-i-test.false, c.loop-i.auto.i-end)))
+returns-clause-signed g c s (j, h, is) =
+    rw is at (c.loop-i.invariant.put j (omega (arith, h, c.loop-i-test.false, c.loop-i.auto.i-end))).holds
 
 pub returns-clause-signature_ids : goal.returns-clause-signature_ids
 returns-clause-signature_ids g c =
-    let under = c.args.under.now in
-    let inv = c.loop-i.invariant in record {
-      each = all_ids c.loop-i.signatures _ _ inv.none
-          (IsStrongSplitSignature under.l.now under.block_ids.now under.first_new)
-          (λ j h. inv.put j (omega (arith, h, c.loop-i-test.false, c.loop-i.auto.i-end))) inv.some;
+    let inv = c.loop-i.invariant in
+    let end : length c.args.active.now ≤ c.loop-i.i = omega (arith, c.loop-i-test.false, c.loop-i.auto.i-end) in
+    record {
+      each = λ s d h. subst (λ x. x < length c.loop-i.signatures) (get_or_default _ s 0 d h)
+          (grind (arith, inv.none s h, inv.put, inv.some));
       states = inv.states ∙ sym c.requires.under.states;
       none = inv.none;
     }

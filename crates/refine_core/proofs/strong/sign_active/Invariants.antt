@@ -2,16 +2,16 @@ use Rattle.std.proofs.Common.{◌≡◌, ℕ, ◌<◌, ◌≤◌, length, slice_
 use Rattle.lts.specs.Meter.{Costs}
 use Rattle.lts.specs.Lts.{before}
 use Rattle.lts.specs.Visited.{remaining_of}
-use Rattle.signatures.specs.Lists.{list_at}
 use Rattle.partition.specs.Blocks.{InactiveHaveNone}
 use Rattle.refine_core.specs.Shown.{IsStrongSplitSignature}
+use Rattle.refine_core.proofs.ActiveStates.{HasGot}
 use Rattle.refine_core.proofs.strong.sign_active.Given as goal
 
 abbrev pub invariant-loop-i : goal.invariant-loop-i
 invariant-loop-i g l = record {
-  put : (j : ℕ) → j < l.i → (slice_index l.signature_ids.items (slice_index l.active j) < length l.signatures)
-      × IsStrongSplitSignature l.under.l.now l.under.block_ids.now l.under.first_new (slice_index l.active j)
-      (list_at l.signatures (slice_index l.signature_ids.items (slice_index l.active j)));
+  put : (j : ℕ) → j < l.i → HasGot
+      (IsStrongSplitSignature l.under.l.now l.under.block_ids.now l.under.first_new) l.signatures
+      l.signature_ids.items (slice_index l.active j);
   states : length l.signature_ids.items ≡ l.under.l.now.states;
   none : InactiveHaveNone l.active l.signature_ids.items;
   some : 1 ≤ length l.signatures;

@@ -1,7 +1,7 @@
-use Rattle.std.proofs.Common.{refl, inl, inr}
+use Rattle.std.proofs.Common.{rules, refl, inl, inr}
 use Rattle.refine_core.specs.declared.signed_blocks.IndexState.TheVariants.{Absent, Searched}
 use Rattle.refine_core.proofs.Signatures.{fits_either, split_fits}
-use Rattle.refine_core.proofs.Rounding.{split_of, keeps_index_either}
+use Rattle.refine_core.proofs.IndexStates.{split_of, keeps_index_either}
 use Rattle.refine_core.proofs.signed_blocks.SignedBlocks.split.Goals as goal
 
 pub invariant_of-round : goal.invariant_of-round
@@ -21,11 +21,9 @@ returns-in-Absent g c = split_of c.self.view_is c.invariants.ensures c.self.inva
 pub returns-then-len-round : goal.returns-then-len-round
 returns-then-len-round g c = let next = c.in_ok-next-in-Searched.ensures in
     split_of c.self.view_is c.invariants.ensures c.self.invariant.0 c.deref.ensures.value c.in_ok-blocks.ensures
-    next.blocks
-    (keeps_index_either _ _ _ _ _ c.in-Searched.is (inr next.activates))
+    next.blocks (keeps_index_either _ _ _ _ _ c.in-Searched.is (inr next.activates))
 
 pub returns-else-len-round : goal.returns-else-len-round
 returns-else-len-round g c =
     split_of c.self.view_is c.invariants.ensures c.self.invariant.0 c.deref.ensures.value c.in_ok-blocks.ensures refl
-    (keeps_index_either _ _ _ _ _ c.in-Searched.is
-    (inl (record { index_state = refl; signatures = refl; cached = refl })))
+    (keeps_index_either _ _ _ _ _ c.in-Searched.is (inl (search rules)))
