@@ -62,8 +62,8 @@ RestartsOrSearches (Pending e) rel l old r =
 
 -- `Awaits` holds if r, the data of a round (`Signed`), is ready for a new round. The blocks of r must result from the
 -- blocks `old` of the last round (`Follows`). If there is a predecessor index, a search of this index must be pending,
--- or the round must process all states again (`RestartsOrSearches`). If there is no predecessor index, all states must
--- be active unless their signatures cannot change a block (`AreAllActiveOrIndexed`).
+-- or the round must process all states again (`RestartsOrSearches`). If there is no predecessor index, each state must
+-- be active (processed by the round), be in a singleton block, or have no transition (`AreAllActiveOrIndexed`).
 pub record Awaits (rel : Relation) (l : Grouped) (r : Signed) : Type 0 where
   pub old : Option (List ℕ)
   pub follows : Follows rel l old r.blocks.block_ids r.blocks.first_new
