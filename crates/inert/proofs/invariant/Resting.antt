@@ -44,9 +44,7 @@ AreOthers active stages = (s : ℕ) → s < length stages → IsMember active s 
 -- all states were completed before that.
 module _ {active : List ℕ} {old w : Search} (woken : AreMarkedUnvisited old.stages active w) (over : HasEnded old) where
   others : AreOthers active w.stages
-  others s h =
-      let was = over.all s (omega (arith, h, woken.size)) in
-      ⊎_map (λ one. one) (λ same. (was.0, same ∙ was.1)) (woken.others s)
+  others s h = grind (arith, h, over.all s, woken.size, woken.others s)
 
   pub unvisited : (s : ℕ) → IsMember active s → stage_at w.stages s ≡ Unvisited
   unvisited s one = ap (stage_at w.stages) (sym one.2) ∙ woken.unvisited one.0 one.1
@@ -61,8 +59,7 @@ module _ {active : List ℕ} {old w : Search} (woken : AreMarkedUnvisited old.st
   -- completed.
   pub others_on : {new : List VisitState} → KeepsVisited w.stages new → length new ≡ length old.stages
       → AreOthers active new
-  others_on seen size s h =
-      ⊎_map (λ one. one) (λ is. (is.0, seen.finished s is.0 is.1)) (others s (omega (arith, h, size, woken.size)))
+  others_on seen size s h = grind (arith, h, size, woken.size, others s, seen.finished s)
 
   -- The active states are the states that the round processes. Suppose that the cached signature ID is correct for each
   -- state that is not active but shares a block with an active state. Then a search can begin (`IsAtRest`).

@@ -3,6 +3,7 @@
 use Rattle.std.proofs.Common.{◌≡◌, ◌≢◌, ℕ, ◌+◌, ◌-◌, ◌<◌, ◌≤◌, List, length, slice_index, sym, ◌∙◌, ap, inl, inr, rules}
 use Rattle.std.proofs.Common.{arith, take, get_or, Contains}
 use Rattle.std.specs.List.{All}
+use Rattle.std.proofs.Math.Logic.{⊎_map}
 use Rattle.std.proofs.lemmas.Bool.{cases_eq, cases_lt}
 use Rattle.std.proofs.lemmas.Grind.{common_steps}
 use Rattle.std.proofs.lemmas.List.{get_or_default, get_or-take, length-take-le, length-append, get_or_append_left}
@@ -45,8 +46,7 @@ module _ {u : Under} {signatures : List (List (ℕ × ℕ))} {w : Search} (walks
   -- the state of the last frame on the stack, it still has a frame after the last frame was popped.
   popped_framed : (p : ℕ) → p < here w → (i : ℕ) × (i < length w.frames) × ((frame_at w.frames i).height ≡ p)
       → (i : ℕ) × (i < length (popped w).frames) × ((frame_at (popped w).frames i).height ≡ p)
-  popped_framed p before (i, low, is) = let low' = not_last walks i low (omega (arith, is, before)) in
-      grind (arith, popped_same i low', is)
+  popped_framed p before (i, low, is) = grind (arith, not_last walks i low, before, popped_same i, is)
 
   -- A frame belongs to a state on the stack whose outgoing transitions are being read. These lemmas assume that all
   -- outgoing transitions of the state of the last frame were read, and that this state is not the root of a component
@@ -58,30 +58,24 @@ module _ {u : Under} {signatures : List (List (ℕ × ℕ))} {w : Search} (walks
     -- The current state is the state whose outgoing transitions were just read. If the current state is not the root of
     -- a component (its first state on the stack), all roots are below the current state on the stack.
     earlier : All (λ r. r.height < here w) w.roots
-    earlier i d h = let most = last_most walks i d h in
-        let reach = reached walks (length w.roots - 1) no_root (omega (arith, h)) in
-        omega (arith, most.0, reach, apart)
+    earlier i d h = grind (arith, last_most walks i d h, reached walks (length w.roots - 1) no_root, apart, h)
 
     entered_popped : (p t : ℕ) → IsBeingSearched w p t → IsFollowed signatures (popped w) p t
     entered_popped p t (i, low, is, to) = elim (cases_lt (i + 1) (length w.frames - 1)) [
       | inl low' ↦ inr (inr (grind (arith, popped_same i, popped_same (i + 1), low', is, to)))
       | inr high ↦
-          let e : i + 1 ≡ length w.frames - 1 = omega (arith, low, high) in
-          let there : slice_index w.stack (here w) ≡ t = rw e at to in
-          let placed = walks.opened.placed (here w) (on_stack walks some) in
+          let there : slice_index w.stack (here w) ≡ t = grind (arith, low, high, to) in
           let down : IsNotBelow w.roots (here w) p = λ j d h _.
           let (k, lk, height) = (walks.roots.each j d h).framed in
-          let less = not_last walks k lk (omega (arith, earlier j d h, height)) in
-          let up = walks.frames.ascending k i no_frame in grind (arith, up, less, e, height, is, low) in
-          inl (here w, rw there at placed, λ j d h _. reached walks j d h, down)
+          let up = walks.frames.ascending k i no_frame in
+          grind (arith, up, not_last walks k lk, earlier j d h, high, height, is, low) in
+          inl (here w, rw there at (walks.opened.placed (here w) (on_stack walks some)), λ j d h _. reached walks j d h, down)
     ]
 
     ahead_popped : (p k : ℕ) → k < length u.l.places → source_of (place_at u.l.places k) ≡ slice_index w.stack p →
         IsToBeRead w p k → IsToBeRead (popped w) p k
-    ahead_popped p k lk source (i, low, is, ahead) = elim (cases_lt i (length w.frames - 1)) [
-      | inl low' ↦ grind (arith, popped_same i low', is, ahead)
-      | inr high ↦ absurd (none_ahead walks read p k i lk source low (omega (arith, low, high)) is ahead)
-    ]
+    ahead_popped p k lk source (i, low, is, ahead) =
+        grind (arith, popped_same i, none_ahead walks read p k i lk source low, low, is, ahead)
 
     SearchInvariant-pop : SearchInvariant u signatures (popped w)
     SearchInvariant-pop =
@@ -145,16 +139,12 @@ module _ (laws : Laws) {u : Under} (lts : IsLts u.l) {before signatures : List (
   same_unseen s = grind (arith, closes.stages.others s, walks.opened.placed, closes.stages.members)
 
   closed_seen : KeepsVisited w.stages new.stages
-  closed_seen = record {
-    unseen = λ s is. grind (arith, closes.stages.others s, closes.stages.members, is);
-    finished = λ s k is. grind (arith, closes.stages.others s, walks.opened.placed, is);
-  }
+  closed_seen = grind (arith, closes.stages.others, closes.stages.members, walks.opened.placed)
 
   closed_signs : SignsMore u signatures w.stages new.stages
-  closed_signs s k is = elim (closes.stages.others s) [
-    | inl e ↦ inl (sym e ∙ is)
-    | inr (m, from, high, same) ↦ inr (grind (arith, closes.stages.members m, signed m, from, high, same, is))
-  ]
+  closed_signs s k is = ⊎_map (λ e. sym e ∙ is)
+      (λ (m, from, high, same). grind (arith, closes.stages.members m, signed m, from, high, same, is))
+      (closes.stages.others s)
 
   -- The stack is divided into components, which collect items: pairs (label ID, block) and signature IDs. The items of
   -- the completed component begin at the index `c0` of the list of items. The first `c0` items belong to other
@@ -168,10 +158,7 @@ module _ (laws : Laws) {u : Under} (lts : IsLts u.l) {before signatures : List (
   -- completed component is now the last item in the list of all items. Otherwise no item is added.
   item_new : 0 < length new.frames → (length new.items ≡ c0 + 1)
       × (item_at new.items c0 ≡ Interned closes.id)
-  item_new more = let is = closes.led (omega (arith, ap length closes.frames, more)) in
-      let size = length-take-le c0 w.items few in let last = get_or_push (take c0 w.items)
-      (Interned closes.id) _ c0 size in
-      (omega (arith, ap length is, length_push (take c0 w.items), size), ap (λ l. item_at l c0) is ∙ last)
+  item_new more = grind (arith, common_steps, closes.led, closes.frames, more, length-take-le c0 w.items few)
 
   no_item : length new.frames ≡ 0 → length new.items ≡ c0
   no_item none = ap length (closes.alone (sym (ap length closes.frames) ∙ none)) ∙ length-take-le c0 w.items few
@@ -186,12 +173,9 @@ module _ (laws : Laws) {u : Under} (lts : IsLts u.l) {before signatures : List (
       × (get_or new.roots i d ≡ get_or w.roots i d) × IsRoot w.frames w.items (get_or w.roots i d)
       × IsBefore (get_or w.roots i d) (last w.roots)
   root_left i d h = let n = length w.roots - 1 in
-      let low : i < n = omega (arith, h, ap length closes.roots, length-take-le n w.roots (omega arith)) in
-      let within : i < length w.roots = omega (arith, low) in
-      let last = get_or_default w.roots n d no_root (omega (arith, low)) in
-      let before = rw last at (walks.roots.ascending i n d low (omega (arith, low))) in
-      let same = ap (λ l. get_or l i d) closes.roots ∙ get_or-take n w.roots i d low in
-      (within, same, walks.roots.each i d within, before)
+      let last = get_or_default w.roots n d no_root in
+      let same = get_or-take n w.roots i d in
+      grind (arith, h, closes.roots, length-take-le n w.roots, last, same, walks.roots.ascending i n d, walks.roots.each i)
 
   -- A root is the first state of a component on the stack. If the last component of the search w is completed, its root
   -- is removed. Suppose that a property P holds for each remaining root and for the removed root. Then P holds for each
@@ -286,12 +270,8 @@ module _ (laws : Laws) {u : Under} (lts : IsLts u.l) {before signatures : List (
       each = λ i d h. let was = All-take (IsFrame u.l w.stack) (length w.frames - 1) w.frames walks.frames.each i d h in
           grind (arith, was, before_last i d h, size, state_same);
     });
-    connects = λ p r lp lr h.
-        let low : p < q = omega (arith, lp, size) in
-        let low' : r < q = omega (arith, lr, size) in
-        rw (state_same p low, state_same r low')
-        (walks.connects p r (omega (arith, low, low_q)) (omega (arith, low', low_q))
-        (root_back (λ x. x.height ≤ p → x.height ≤ r) h (λ le. absurd (omega (arith, le, low)))));
+    connects = λ p r lp lr h. let back = root_back (λ x. x.height ≤ p → x.height ≤ r) h in
+        grind (arith, lp, lr, size, low_q, state_same, walks.connects p r, back);
     there = let within = (signed q (omega arith) low_q).within in
         All-from_get_or (IsInternedItem signatures) new.items (Pair 0 0)
         (each_item (λ j. IsInternedItem signatures (item_at new.items j))
@@ -300,9 +280,8 @@ module _ (laws : Laws) {u : Under} (lts : IsLts u.l) {before signatures : List (
     sound = sound;
     accounted = λ p k lp lk source.
         let low : p < q = omega (arith, lp, size) in
-        accounted_still closes.listed.grow walks keeps p k low lk source
-        (λ (i, li, is, ahead). let before = not_last walks i li (omega (arith, is, low, height)) in
-        inl (grind (arith, frame_same i before, is, ahead))) (entered_still p);
+        accounted_still closes.listed.grow walks keeps p k low lk source (λ (i, li, is, ahead).
+        inl (grind (arith, not_last walks i li, low, height, frame_same i, is, ahead))) (entered_still p);
   }
 
   -- Suppose that the component at the top of the stack is completed. Then the invariant of the search still holds

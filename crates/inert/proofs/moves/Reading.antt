@@ -9,25 +9,23 @@ use Rattle.theory.specs.declared.relation.Relation.TheVariants.{Branching}
 use Rattle.theory.specs.Blocks.{Inert}
 use Rattle.lts.specs.Lts.{Triple, source_of, target_of, place_at, system_of, IsLts}
 use Rattle.lts.specs.Visited.{price, price_between}
-use Rattle.lts.proofs.CallerLemmas.{row_left, price_none, price_one_more}
+use Rattle.lts.proofs.CallerLemmas.{price_none, price_one_more}
 use Rattle.inert.specs.Signed.{HasPair, pair_under}
-use Rattle.inert.specs.Steps.{Under, remaining, IsInert, IsStep}
+use Rattle.inert.specs.Steps.{Under, IsInert, IsStep}
 use Rattle.inert.specs.Search.{Search, Laws, frame_at, top, IsFrame, IsFollowed, IsHandled, SearchInvariant, OnStack}
-use Rattle.inert.specs.Search.{Frame, Root}
-use Rattle.inert.specs.Search.{Item, Pair, Interned, unseen}
+use Rattle.inert.specs.Search.{Frame, Root, Item, Pair, Interned, unseen}
 use Rattle.inert.proofs.parts.Tops.{no_frame, here}
 use Rattle.inert.specs.SearchMoves.{with_pushed, with_item, HandlesStep, ahead, steps, GoesOn}
 use Rattle.inert.specs.declared.lens.Step.{Step as TakenStep}
 use Rattle.inert.specs.declared.lens.Step.TheVariants.{Inert as Goes, Shows}
-use Rattle.inert.proofs.parts.Stages.{seen_same, seen_more, signs_opened}
+use Rattle.inert.proofs.parts.Stages.{seen_same}
 use Rattle.signatures.proofs.CallerLemmas.{Grow-same}
 use Rattle.inert.proofs.invariant.Keeping.{goes_on}
-use Rattle.inert.proofs.parts.Counting.{unseen-set, unread-set, rest-push, rest-next, rest-most}
+use Rattle.inert.proofs.parts.Counting.{unseen-set, rest-next, rest-most}
 use Rattle.inert.proofs.invariant.Standing.{pair_before, list_signed}
 use Rattle.inert.proofs.signatures.Exact.{place_step}
 use Rattle.inert.proofs.moves.Forward.{SearchInvariant-collect, collected_holds, SearchInvariant-join, joined_here}
-use Rattle.inert.proofs.moves.Forward.{SearchInvariant-enter}
-use Rattle.inert.proofs.moves.Forward.{entered_met, SearchInvariant-next}
+use Rattle.inert.proofs.moves.Forward.{entered_on, entered_met, SearchInvariant-next}
 
 -- The last frame has the outgoing transitions of the current state that are still to be read. These lemmas assume that
 -- the transition at the place k (the index k in the list of all transitions) is the first of them. They describe the
@@ -91,18 +89,12 @@ module _ (laws : Laws) {u : Under} (lts : IsLts u.l) {signatures : List (List (�
     followed m enters (inl (unseen, (start, end, row, new), went)) =
         let within : target_of e < length w.stages = omega (arith, walks.sizes.size, target_low) in
         let x : Frame = record { height = length w.stack; next = start; end = end } in
-        let stage = OnStack (length w.stack) in
-        let after = SearchInvariant-enter walks laws within unseen row (λ _. inert_step inert) in
+        let (on, ahead) = entered_on walks laws within unseen row (λ _. inert_step inert) in
         let met = entered_met walks laws within unseen row some in
         let done = inert_done (with_pushed (target_of e) start end (length w.items) w) (inr (inr met)) in
-        let seen = seen_more w.stages (target_of e) stage (λ e. cc) within unseen in
-        let signs = signs_opened u signatures w.stages (target_of e) stage (λ k e. cc) within in
-        let read = unread-set w.stages (target_of e) stage refl within unseen (remaining u) in
-        let rest = row_left u.visited u.l.places (target_of e) start end row in
-        let push = rest-push u.visited w.frames x in
-        let one = unseen-set w.stages (target_of e) stage refl within unseen in
+        let one = unseen-set w.stages (target_of e) (OnStack (length w.stack)) refl within unseen in
         let same = get_or_append_left w.frames (x ∷ []) no_frame (length w.frames - 1) in
-        rw new (grind (arith, after, done, seen, signs, read, rest, push, one, same, some, length_push w.frames x))
+        rw new (grind (arith, on, ahead, done, one, same, some, length_push w.frames x))
     followed m enters (inr (inl (q, stage, cuts, new, stay))) =
         let was = walks.opened.only (target_of e) q stage in
         rw new (stayed m.roots w.items enters (SearchInvariant-join walks laws cuts was.0 (rw was.1 (inert_step inert)))

@@ -58,10 +58,8 @@ module _ (laws : Laws) {u : Under} (lts : IsLts u.l) {signatures : List (List (�
   -- the transition is not inert, the component has collected its pair (label ID, target block).
   done : (p k : ℕ) → here w ≤ p → p < length w.stack → k < length u.l.places
       → source_of (place_at u.l.places k) ≡ slice_index w.stack p → IsHandled u signatures w p (place_at u.l.places k)
-  done p k h lp lk source = elim (walks.accounted p k lp lk source) [
-    | inr a ↦ a
-    | inl (i, low, is, ahead) ↦ grind (arith, common_steps, none_ahead, last_frame)
-  ]
+  done p k h lp lk source = let left = none_ahead walks read p k in
+      grind (arith, walks.accounted p k lp lk source, left, last_frame walks, h, lk, source)
 
   -- The last component is the component at the top of the stack. Its items are pairs (label ID, block) and signature
   -- IDs, and a signature ID represents all pairs of its signature. Suppose that a path of inert steps leads from a

@@ -35,10 +35,7 @@ module _ {u : Under} {signatures : List (List (ℕ × ℕ))} {active : List ℕ}
   -- its signature.
   all_signed : SignsMore u signatures woken.stages done.stages → (s : ℕ) → IsMember active s
       → IsSignature Branching u.l u.blocks s (list_at signatures (slice_index now s))
-  all_signed signs s one = let (k, is) = its s one in rw (cached_at done.stages s k is) (elim (signs s k is) [
-    | inl none ↦ absurd (cc (unvisited woke over s one, none))
-    | inr sign ↦ sign.signature
-  ])
+  all_signed signs s one = grind (arith, its s one, cached_at done.stages s, signs s, unvisited woke over s one)
 
   -- If a state is not active (not processed by the round), its cached signature ID does not change during the search.
   all_still : (s : ℕ) → IsMember active s ⊎ (slice_index now s ≡ slice_index (cached first.stages) s)
@@ -49,9 +46,8 @@ module _ {u : Under} {signatures : List (List (ℕ × ℕ))} {active : List ℕ}
 
   -- Each cached signature ID is the ID of an interned signature.
   kept_within : AreIds signatures now
-  kept_within s d h =
-      let (k, is) = over_again.all s (omega (arith, h, length-map done.stages id_of)) in
-      grind (arith, cached_at done.stages s k is, get_or_default now s 0 d h, (rests.signed s k is).within)
+  kept_within s d h = let size = length-map done.stages id_of in
+      grind (arith, over_again.all s, size, cached_at done.stages s, get_or_default now s 0 d h, rests.signed s)
 
   -- The active states are the states that the round processes. These lemmas make two assumptions. Before the search,
   -- the cached signature ID of each active state was written to the list `old`, and the result is the list `put`. After
