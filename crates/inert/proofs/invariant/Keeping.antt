@@ -110,13 +110,6 @@ module _ {u : Under} {signatures lists' : List (List (ℕ × ℕ))} (grow : Grow
         λ z g. rw (keeps.states p h) (all z ((give z).1 (rw same at g))),
       )
 
--- If k is the ID of the signature of the state s, it is still the ID of this signature after more signatures are
--- interned.
-signed_grow : {u : Under} {s k : ℕ} {signatures lists' : List (List (ℕ × ℕ))} → Grow signatures lists'
-    → IsSigned u s signatures k →
-    IsSigned u s lists' k
-signed_grow {u = u} {s = s} {k = k} grow was = search rules
-
 -- Suppose that each of two consecutive moves of the search assigns the correct signature ID to each state that it
 -- completes. Then each state that was completed by one of these moves has the correct signature ID after the second
 -- move.
@@ -124,7 +117,7 @@ pub signs_on : (u : Under) (first signatures : List (List (ℕ × ℕ))) (old mi
     → Grow first signatures
     → SignsMore u first old mid → SignsMore u signatures mid new → SignsMore u signatures old new
 signs_on u first signatures old mid new grow were are s k is =
-    grind (arith, are s k is, were s k, signed_grow {u = u} {s = s} {k = k} grow)
+    grind (arith, are s k is, were s k, grow.longer, grow.same)
 
 -- `GoesOn` is transitive: if the search goes on from `old` to `mid` and from `mid` to `new`, it goes on from `old` to
 -- `new`.

@@ -3,7 +3,6 @@
 use Rattle.std.proofs.Common.{rules, ◌≡◌, ◌⊎◌, ◌∙◌, ℕ, ◌<◌, ◌≤◌, List, length, slice_index, refl, sym, ap, inl}
 use Rattle.std.proofs.Common.{inr, arith}
 use Rattle.std.specs.List.{All}
-use Rattle.std.proofs.Math.Logic.{⊎_map}
 use Rattle.std.proofs.lemmas.Bool.{cases_lt}
 use Rattle.std.proofs.lemmas.List.{get_or_past, get_or-map, length-map, nil_from_length}
 use Rattle.std.proofs.lemmas.List.Sums.{count_by-le-length}
@@ -73,10 +72,8 @@ module _ {active : List ℕ} {old w : Search} (woken : AreMarkedUnvisited old.st
       grind (arith, woken.others s, unvisited s, is, cached_at old.stages s k) in
       record {
         within = let within = signature_ids s 0 in grind (arith, id, within, inside, length-map old.stages id_of);
-        signature = λ t low block. elim (others t (omega (arith, low, size, woken.size))) [
-          | inr done ↦ inl done
-          | inl one ↦ search rules
-        ];
+        signature = λ t low block.
+            grind (arith, others t, are s t, size, inside, low, block, id, woken.size, unvisited s, is);
       } in
       let sizes = woken.size ∙ size in
       search (rules, woken.empty, sizes, some, unless_finished, signed, w.stages, count_by-le-length)

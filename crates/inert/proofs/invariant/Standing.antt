@@ -27,11 +27,8 @@ module _ {u : Under} {signatures : List (List (ℕ × ℕ))} {w : Search} (walks
   pub on_stack : 0 < length w.frames → here w < length w.stack
   on_stack some = (walks.frames.each (length w.frames - 1) no_frame (omega (arith, some))).on_stack
 
-  pub stack_some : 0 < length w.frames → 0 < length w.stack
-  stack_some some = omega (arith, on_stack some)
-
   pub last_low : 0 < length w.frames → length w.roots - 1 < length w.roots
-  last_low some = omega (arith, roots_some (stack_some some))
+  last_low some = omega (arith, roots_some (omega (arith, on_stack some)))
 
   -- A frame belongs to a state on the stack whose outgoing transitions are being read. No state that has a frame is
   -- higher on the stack than the state of the last frame.
@@ -63,8 +60,7 @@ module _ {u : Under} {signatures : List (List (ℕ × ℕ))} {w : Search} (walks
   -- component. The items that the last component has collected, which are pairs (label ID, block) and signature IDs,
   -- come after the items of all other components.
   pub last_most : All (λ r. (r.height ≤ (last w.roots).height) × (r.items ≤ (last w.roots).items)) w.roots
-  last_most i d h = let root = get_or_default w.roots (length w.roots - 1) d no_root in
-      grind (arith, walks.roots.ascending i (length w.roots - 1) d, root)
+  last_most i d h = grind (arith, walks.roots.ascending i (length w.roots - 1) d, get_or_default)
 
   -- The current state is the state whose outgoing transitions are being read. Paths of inert steps lead from each state
   -- on the stack to the current state.

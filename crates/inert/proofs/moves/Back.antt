@@ -7,7 +7,6 @@ use Rattle.std.proofs.Math.Logic.{⊎_map}
 use Rattle.std.proofs.lemmas.Bool.{cases_eq, cases_lt}
 use Rattle.std.proofs.lemmas.Grind.{common_steps}
 use Rattle.std.proofs.lemmas.List.{get_or_default, get_or-take, length-take-le, length-append, get_or_append_left}
-use Rattle.std.proofs.lemmas.List.{get_or_push, length_push}
 use Rattle.std.proofs.lemmas.List.Elements.{All-take, All-from_get_or}
 use Rattle.lts.specs.Lts.{source_of, place_at, IsLts}
 use Rattle.signatures.specs.Lists.{list_at}
@@ -22,7 +21,7 @@ use Rattle.inert.specs.SearchMoves.{HasRead, Closes, ahead, SignsMore, GoesOn}
 use Rattle.inert.proofs.parts.Stages.{seen_same, kept_still}
 use Rattle.inert.proofs.parts.Rising.{AllPairs-take, All-from_take}
 use Rattle.inert.proofs.parts.Counting.{unseen-same, unread-same, rest-cut}
-use Rattle.inert.proofs.invariant.Standing.{reached, on_stack, not_last, last_most, none_ahead, pair_before, stack_some}
+use Rattle.inert.proofs.invariant.Standing.{reached, on_stack, not_last, last_most, none_ahead, pair_before}
 use Rattle.inert.proofs.invariant.Standing.{last_low, root_low}
 use Rattle.inert.proofs.invariant.Keeping.{KeepsStack, roots_kept, accounted_still, sound_still, AreSound}
 use Rattle.inert.proofs.signatures.Exact.{exact}
@@ -127,10 +126,6 @@ module _ (laws : Laws) {u : Under} (lts : IsLts u.l) {before signatures : List (
   state_same : (p : ℕ) → p < q → slice_index new.stack p ≡ slice_index w.stack p
   state_same p h = ap (λ l. slice_index l p) closes.stack ∙ get_or-take q w.stack p 0 h
 
-  frame_same : (i : ℕ) → i < length w.frames - 1 → (i < length new.frames)
-      × (frame_at new.frames i ≡ frame_at w.frames i)
-  frame_same i h = rw closes.frames (popped_same walks i h)
-
   before_last : All (λ x. x.height < q) (popped w).frames
   before_last i d h = let frame = get_or_default w.frames (length w.frames - 1) d no_frame in
       grind (arith, get_or-take, popped_size walks, walks.frames.ascending i (length w.frames - 1) d, frame, height, h)
@@ -224,9 +219,8 @@ module _ (laws : Laws) {u : Under} (lts : IsLts u.l) {before signatures : List (
         let there : slice_index w.stack q ≡ t = grind (arith, e, height, to) in
         inr (inl (closes.id, grind (arith, there, closes.stages.members q, low_q), rw (← at) (back_holds more)))
     | inr d ↦
-        let before = before_last (i + 1) no_frame in
-        let same = popped_same walks (i + 1) in
-        inr (inr (grind (arith, frame_same i, frame_same (i + 1), low, d, is, to, same, state_same, before)))
+        let before = before_last (i + 1) no_frame in let same = popped_same walks in
+        inr (inr (grind (arith, same i, same (i + 1), closes.frames, low, d, is, to, state_same, before)))
   ]
 
   opened : AreOpen new.stages new.stack
@@ -257,7 +251,7 @@ module _ (laws : Laws) {u : Under} (lts : IsLts u.l) {before signatures : List (
     signed = λ s k is. let still = kept_still closes.listed.grow u w.stages new.stages closed_seen.finished s k in
         grind (arith, closed_signs s k is, still, walks.signed s k);
     roots = record {
-      first = λ h all. walks.roots.first (stack_some walks some) (root_back (λ r. 0 < r.height) all
+      first = λ h all. walks.roots.first (omega (arith, low_q)) (root_back (λ r. 0 < r.height) all
           (omega (arith, h, size)));
       ascending = rw closes.roots (AllPairs-take IsBefore (length w.roots - 1) w.roots walks.roots.ascending);
       each = λ i d h. let (low, same, root, before) = root_left i d h in
@@ -281,7 +275,7 @@ module _ (laws : Laws) {u : Under} (lts : IsLts u.l) {before signatures : List (
     accounted = λ p k lp lk source.
         let low : p < q = omega (arith, lp, size) in
         accounted_still closes.listed.grow walks keeps p k low lk source (λ (i, li, is, ahead).
-        inl (grind (arith, not_last walks i li, low, height, frame_same i, is, ahead))) (entered_still p);
+        inl (grind (arith, not_last walks i li, low, height, popped_same walks i, closes.frames, is, ahead))) (entered_still p);
   }
 
   -- Suppose that the component at the top of the stack is completed. Then the invariant of the search still holds

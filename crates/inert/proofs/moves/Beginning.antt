@@ -60,9 +60,6 @@ module _ (laws : Laws) {u : Under} (lts : IsLts u.l) {signatures : List (List (â
   abbrev Framed : Search
   Framed = framed s k end old.stages w.items
 
-  some : 0 < length Framed.frames
-  some = omega arith
-
   -- These lemmas assume that the transition at the place k (the index k in the list of all transitions) belongs to the
   -- first state s of the search, and is read next.
   module _ (more : k < end) where
@@ -79,8 +76,8 @@ module _ (laws : Laws) {u : Under} (lts : IsLts u.l) {signatures : List (List (â
         HandlesStep u.l.places step (framed s (k + 1) end old.stages w.items) m enters â†’ Next m
     takes_framed step enters is takes =
         let none : Stays Framed Framed = record { size = refl; stack = refl; unseen = refl } in
-        let one = (marked (reads_none begun.on.walks some) none some laws lts more (slice_index u.blocks s) refl step is
-        refl refl takes).reads in
+        let one = (marked (reads_none begun.on.walks (omega arith)) none (omega arith) laws lts more
+        (slice_index u.blocks s) refl step is refl refl takes).reads in
         let on = goes_on (Grow-same signatures) begun.on one.on in
         let price = price_split u.visited start k (k + 1) begun.forward (omega arith) in
         grind (arith, on, begun.found, one.on.seen.unseen s, one.less, begun.less, begun.forward, price)

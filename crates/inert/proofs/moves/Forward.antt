@@ -2,7 +2,7 @@
 -- pair (label ID, block) or a signature ID, or merges components of the stack, or pushes a state, or marks a transition
 -- as read.
 use Rattle.std.proofs.Common.{◌≡◌, ◌≢◌, ℕ, ◌+◌, ◌<◌, List, length, slice_index, refl, inl, inr, arith, ◌-◌, ◌≤◌, rules}
-use Rattle.std.proofs.Common.{◌∙◌, ap, ◌⊎◌, set, get_or}
+use Rattle.std.proofs.Common.{◌∙◌, ◌⊎◌, set, get_or}
 use Rattle.std.specs.List.{All}
 use Rattle.std.proofs.lemmas.Bool.{cases_lt, cases_eq}
 use Rattle.std.proofs.lemmas.List.{get_or_append_left, get_or_push, length_push, get_or_default, length-set}

@@ -45,9 +45,6 @@ module _ (laws : Laws) {u : Under} (lts : IsLts u.l) {signatures : List (List (�
   pub source : source_of e ≡ slice_index w.stack (here w)
   source = (frame.row.exactly k place_low).1 (omega (arith, frame.first, next), more)
 
-  pub target_low : target_of e < u.l.states
-  target_low = (lts.in_range.each k (0, 0, 0) place_low).target
-
   -- The current state is the state whose outgoing transitions are being read. If the transition e of the current state
   -- is inert, then an inert step leads from the current state to the target of e.
   inert_step : IsInert u (slice_index u.blocks (source_of e)) e →
@@ -87,7 +84,7 @@ module _ (laws : Laws) {u : Under} (lts : IsLts u.l) {signatures : List (List (�
 
     followed : (m : Search) (enters : Bool) → HandlesStep u.l.places (Goes (target_of e)) w m enters → Taken m enters
     followed m enters (inl (unseen, (start, end, row, new), went)) =
-        let within : target_of e < length w.stages = omega (arith, walks.sizes.size, target_low) in
+        let within : target_of e < length w.stages = grind (arith, walks.sizes.size, lts.in_range.each k (0, 0, 0) place_low) in
         let x : Frame = record { height = length w.stack; next = start; end = end } in
         let (on, ahead) = entered_on walks laws within unseen row (λ _. inert_step inert) in
         let met = entered_met walks laws within unseen row some in

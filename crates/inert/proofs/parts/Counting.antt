@@ -78,7 +78,3 @@ pub rest-cut : (visited : List ℕ) (frames : List Frame) → 0 < length frames 
 rest-cut visited frames some read =
     let none = ap (price_between visited (top frames).next) (sym read) ∙ price_none visited (top frames).next in
     grind (arith, common_steps, take_all, sum_by_more, none)
-
--- The number of transitions with an unvisited source is at most the number of all transitions.
-pub unread-most : (places : List Triple) (stages : List VisitState) → unread places stages ≤ length places
-unread-most places stages = search (rules, length-filter, count_by-le-length)

@@ -73,9 +73,7 @@ module _ (laws : Laws) {u : Under} (lts : IsLts u.l) {signatures : List (List (�
   collects z [] p h lp v t e step is other low =
       let (k, lk, source, label, target) = step_place u.l v t (text_of u.l.labels z.0) step in
       let id : label_of (place_at u.l.places k) ≡ z.0 = search rules in
-      let block : slice_index u.blocks (target_of (place_at u.l.places k)) ≡ z.1 =
-      ap (slice_index u.blocks) target ∙ is in
-      let same : pair_under u.blocks (place_at u.l.places k) ≡ z = λ i. (id i, block i) in
+      let same : pair_under u.blocks (place_at u.l.places k) ≡ z = grind (arith, id, target, is) in
       collected_from p h z (rw same at ((done p k h lp lk (source ∙ sym e)).shown (λ inert. other (cc, cc))))
   collects z (x ∷ us) p h lp v t (first, rest) step is other low =
       let (k, lk, source, label, target) = step_place u.l (slice_index w.stack p) x internal first.0 in
@@ -121,8 +119,8 @@ module _ (laws : Laws) {u : Under} (lts : IsLts u.l) {signatures : List (List (�
         signature = record {
           exactly = λ k b. (
             λ c. sound p h lp (k, b) ((listed.exactly (k, b)).0 c),
-            λ has. (listed.exactly (k, b)).1 (collects (k, b) has.1.2.0 p h lp has.1.0 has.1.1 has.1.2.1 has.1.3
-                has.1.4 has.1.5 has.0),
+            λ (low, (v, t, (us, path), step, is, other)).
+                (listed.exactly (k, b)).1 (collects (k, b) us p h lp v t path step is other low),
           );
           ascending = listed.ascending;
         };

@@ -15,11 +15,9 @@ use Rattle.inert.proofs.depth_first_search.DepthFirstSearch.begin.Goals as goal
 use Rattle.inert.proofs.depth_first_search.DepthFirstSearch.begin.Goals.{After-step-step}
 
 pub loop-k-init : goal.loop-k-init
-loop-k-init g c = let rests = c.requires.rests in record {
-  same = rests.empty ∙ ap (λ w. collecting c.args.self.now.stages w.items) (sym rests.empty);
-  begun = begins c.invariants.ensures.laws rests c.requires.state.0 c.requires.state.1 c.row-start.ensures;
-  cost = omega (arith, price_none c.args.lens.now.visited c.row-start.result.0);
-}
+loop-k-init g c = let rests = c.requires.rests in
+    let begun = begins c.invariants.ensures.laws rests c.requires.state.0 c.requires.state.1 c.row-start.ensures in
+    grind (arith, common_steps, rests.empty, begun, price_none c.args.lens.now.visited c.row-start.result.0)
 
 pub step-step-requires-clause-room : goal.step-step-requires-clause-room
 step-step-requires-clause-room g c = let i = c.loop-k.invariant in
