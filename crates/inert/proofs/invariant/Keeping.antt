@@ -10,7 +10,7 @@ use Rattle.inert.specs.Steps.{Under}
 use Rattle.inert.specs.Signed.{pair_under}
 use Rattle.inert.specs.SearchMoves.{SignsMore, GoesOn}
 use Rattle.inert.proofs.parts.Stages.{seen_on}
-use Rattle.inert.specs.Search.{Search, VisitState, IsSigned, stage_at, item_at, GivesPair, IsNotBelow, BelongsTo}
+use Rattle.inert.specs.Search.{Search, VisitState, stage_at, item_at, GivesPair, IsNotBelow, BelongsTo}
 use Rattle.inert.specs.Search.{ComponentHasPair, IsToBeRead, IsBeingSearched, IsFollowed, IsHandled, IsSound}
 use Rattle.inert.specs.Search.{IsInternedItem, IsRoot, AreRoots, SearchInvariant, OnStack, Completed, Frame, Root, Item}
 use Rattle.inert.specs.Search.{Pair, Interned}
@@ -38,9 +38,9 @@ pub record KeepsStack (w new : Search) (n : ℕ) : Type 0 where
   pub finished : (s k : ℕ) → stage_at w.stages s ≡ Completed k → stage_at new.stages s ≡ Completed k
 
 -- A root is the first state of a component on the stack, and has the index at which the items of the component begin.
--- An item is a pair (label ID, block) or a signature ID. Suppose that the frames (for the states whose outgoing
--- transitions are being read) and the items change, but not the roots. If each root still satisfies `IsRoot`, then the
--- roots are still in order (`AreRoots`).
+-- An item is a pair (label ID, block) or a signature ID. A frame has the outgoing transitions of a state on the stack
+-- that are still to be read. Suppose that the frames and the items change, but not the roots. If each root still
+-- satisfies `IsRoot`, then the roots are still in order (`AreRoots`).
 pub roots_kept : {w : Search} → AreRoots w → (frames : List Frame) (items : List Item) →
     All (IsRoot frames items) w.roots → AreRoots (record w { frames = frames; items = items })
 roots_kept roots frames items each = record { first = roots.first; ascending = roots.ascending; each = each }

@@ -1,7 +1,6 @@
 -- Lemmas about a search that has not begun or has ended. Some of these lemmas are about the cached signature IDs of the
 -- states.
-use Rattle.std.proofs.Common.{rules, ◌≡◌, ◌⊎◌, ◌∙◌, ℕ, ◌<◌, ◌≤◌, List, length, slice_index, refl, sym, ap, inl}
-use Rattle.std.proofs.Common.{inr, arith}
+use Rattle.std.proofs.Common.{rules, ◌≡◌, ◌⊎◌, ◌∙◌, ℕ, ◌<◌, ◌≤◌, List, length, slice_index, refl, sym, ap, arith}
 use Rattle.std.specs.List.{All}
 use Rattle.std.proofs.lemmas.Bool.{cases_lt}
 use Rattle.std.proofs.lemmas.List.{get_or_past, get_or-map, length-map, nil_from_length}
@@ -94,8 +93,8 @@ module _ {u : Under} {signatures : List (List (ℕ × ℕ))} {w : Search} (rests
   pub finished : (s : ℕ) → ¬ (stage_at w.stages s ≡ Unvisited) → IsFinished w.stages s
   finished s found = finished_stage (stage_at w.stages s) found (rests.shut s)
 
--- A frame belongs to a state whose outgoing transitions are being read. If the invariant of the search holds and there
--- is no frame, then no search is in progress (`IsAtRest`).
+-- A frame has the outgoing transitions of a state on the stack that are still to be read. If the invariant of the
+-- search holds and there is no frame, then no search is in progress (`IsAtRest`).
 pub walk_rests : {u : Under} {signatures : List (List (ℕ × ℕ))} {w : Search} → SearchInvariant u signatures w
     → length w.frames ≡ 0
     → IsAtRest u signatures w

@@ -30,8 +30,8 @@ module _ {u : Under} {signatures : List (List (ℕ × ℕ))} {w : Search} (walks
   pub last_low : 0 < length w.frames → length w.roots - 1 < length w.roots
   last_low some = omega (arith, roots_some (omega (arith, on_stack some)))
 
-  -- A frame belongs to a state on the stack whose outgoing transitions are being read. No state that has a frame is
-  -- higher on the stack than the state of the last frame.
+  -- A frame has the outgoing transitions of a state on the stack that are still to be read. No state that has a frame
+  -- is higher on the stack than the state of the last frame.
   pub frames_up : (i : ℕ) → i < length w.frames → (frame_at w.frames i).height ≤ here w
   frames_up i low = grind (arith, walks.frames.ascending i (length w.frames - 1) no_frame, low)
 

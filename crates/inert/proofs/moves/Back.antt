@@ -26,14 +26,14 @@ use Rattle.inert.proofs.invariant.Standing.{last_low, root_low}
 use Rattle.inert.proofs.invariant.Keeping.{KeepsStack, roots_kept, accounted_still, sound_still, AreSound}
 use Rattle.inert.proofs.signatures.Exact.{exact}
 
--- There is a list of frames, one for each state on the stack whose outgoing transitions are being read. Returns the
--- search w after the last frame of this list was removed. The stack of states does not change.
+-- A frame has the outgoing transitions of a state on the stack that are still to be read, and there is a list of all
+-- frames. Returns the search w after the last frame of this list was removed. The stack of states does not change.
 abbrev pub popped : Search → Search
 popped w = record w { frames = take (length w.frames - 1) w.frames }
 
 module _ {u : Under} {signatures : List (List (ℕ × ℕ))} {w : Search} (walks : SearchInvariant u signatures w) where
-  -- There is a list of frames, one for each state whose outgoing transitions are being read. Popping the last frame
-  -- reduces the length of this list by one.
+  -- A frame has the outgoing transitions of a state on the stack that are still to be read, and there is a list of all
+  -- frames. Popping the last frame reduces the length of this list by one.
   pub popped_size : length (popped w).frames ≡ length w.frames - 1
   popped_size = length-take-le (length w.frames - 1) w.frames (omega arith)
 
@@ -41,15 +41,15 @@ module _ {u : Under} {signatures : List (List (ℕ × ℕ))} {w : Search} (walks
       × (frame_at (popped w).frames i ≡ frame_at w.frames i)
   popped_same i h = (omega (arith, popped_size, h), get_or-take (length w.frames - 1) w.frames i no_frame h)
 
-  -- A frame belongs to a state on the stack whose outgoing transitions are being read. If a state with a frame is below
-  -- the state of the last frame on the stack, it still has a frame after the last frame was popped.
+  -- A frame has the outgoing transitions of a state on the stack that are still to be read. If a state with a frame is
+  -- below the state of the last frame on the stack, it still has a frame after the last frame was popped.
   popped_framed : (p : ℕ) → p < here w → (i : ℕ) × (i < length w.frames) × ((frame_at w.frames i).height ≡ p)
       → (i : ℕ) × (i < length (popped w).frames) × ((frame_at (popped w).frames i).height ≡ p)
   popped_framed p before (i, low, is) = grind (arith, not_last walks i low, before, popped_same i, is)
 
-  -- A frame belongs to a state on the stack whose outgoing transitions are being read. These lemmas assume that all
-  -- outgoing transitions of the state of the last frame were read, and that this state is not the root of a component
-  -- (its first state on the stack).
+  -- A frame has the outgoing transitions of a state on the stack that are still to be read. These lemmas assume that
+  -- all outgoing transitions of the state of the last frame were read, and that this state is not the root of a
+  -- component (its first state on the stack).
   module _ (some : 0 < length w.frames) (read : HasRead w) (apart : (last w.roots).height ≢ here w) where
     pop_keeps : KeepsStack w (popped w) (length w.stack)
     pop_keeps = grind arith
@@ -88,13 +88,13 @@ module _ {u : Under} {signatures : List (List (ℕ × ℕ))} {w : Search} (walks
         (λ ahead. inl (ahead_popped p k lk source ahead)) (entered_popped p) in
         search (rules, walks, roots, frames, sound, accounted)
 
-    -- There is a list of frames, one for each state on the stack whose outgoing transitions are being read. Suppose
-    -- that all outgoing transitions of the state of the last frame were read. Then the invariant of the search still
-    -- holds after this frame was removed from the list (`GoesOn`).
+    -- A frame has the outgoing transitions of a state on the stack that are still to be read, and there is a list of
+    -- all frames. Suppose that all outgoing transitions of the state of the last frame were read. Then the invariant of
+    -- the search still holds after this frame was removed from the list (`GoesOn`).
     pub popped_on : GoesOn u signatures w (popped w)
     popped_on = record { walks = SearchInvariant-pop; seen = seen_same w.stages; signs = λ s k is. inl is }
 
--- A frame belongs to a state on the stack whose outgoing transitions are being read. These lemmas assume that all
+-- A frame has the outgoing transitions of a state on the stack that are still to be read. These lemmas assume that all
 -- outgoing transitions of the state of the last frame were read, and that this state is the root of a component (its
 -- first state on the stack). They also assume that this component was then completed.
 module _ (laws : Laws) {u : Under} (lts : IsLts u.l) {before signatures : List (List (ℕ × ℕ))} {w new : Search}

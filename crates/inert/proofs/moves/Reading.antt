@@ -148,8 +148,9 @@ pub record Reads (u : Under) (signatures : List (List (ℕ × ℕ))) (old new : 
   pub forward : (top old.frames).next ≤ k
   pub less : ahead u new + price_between u.visited (top old.frames).next k ≡ ahead u old
 
--- A frame belongs to a state whose outgoing transitions are being read. `Stays` holds if no state was pushed while the
--- search went from `old` to `new`: the stack, the number of frames and the number of unvisited states are the same.
+-- A frame has the outgoing transitions of a state on the stack that are still to be read. `Stays` holds if no state was
+-- pushed while the search went from `old` to `new`: the stack, the number of frames and the number of unvisited states
+-- are the same.
 pub record Stays (old new : Search) : Type 0 where
   pub size : length new.frames ≡ length old.frames
   pub stack : new.stack ≡ old.stack

@@ -7,7 +7,7 @@ use Rattle.std.proofs.lemmas.Grind.{common_steps}
 use Rattle.std.proofs.lemmas.Bool.Decides.{nat_tests}
 use Rattle.std.proofs.lemmas.List.{same_lists, get_or-map, length-map, take_all}
 use Rattle.std.proofs.lemmas.List.Elements.{filter_agree}
-use Rattle.std.proofs.lemmas.List.Sums.{length-filter, count_by-le-length, sum-map, sum_by_more, sum_by_push}
+use Rattle.std.proofs.lemmas.List.Sums.{sum-map, sum_by_more, sum_by_push}
 use Rattle.std.proofs.lemmas.List.Sums.{sum_by-set}
 use Rattle.lts.specs.Lts.{Triple, source_of, row_of}
 use Rattle.lts.specs.Visited.{price, price_between}

@@ -2,7 +2,7 @@
 -- has collected items, and an item is a pair (label ID, block) or a signature ID. If all outgoing transitions of the
 -- states of this component were read, its items represent exactly the pairs of the signature of each of its states.
 use Rattle.std.proofs.Common.{rules, ◌≡◌, ℕ, ◌+◌, ◌-◌, ◌<◌, ◌≤◌, List, [], ◌∷◌, length, drop, get_or, slice_index, sym}
-use Rattle.std.proofs.Common.{◌∙◌, ap, subst, inl, inr, arith, Contains}
+use Rattle.std.proofs.Common.{◌∙◌, subst, inl, inr, arith, Contains}
 use Rattle.std.proofs.lemmas.Grind.{common_steps}
 use Rattle.std.proofs.lemmas.List.{length-map, get_or-map, get_or-drop, get_or_default, length-drop}
 use Rattle.theory.specs.System.{Step, Along, internal}

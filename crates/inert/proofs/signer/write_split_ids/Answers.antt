@@ -1,6 +1,5 @@
 use borrow.Author.Count.{below_more}
-use Rattle.std.proofs.Common.{◌≢◌, ◌∙◌, ℕ, ◌<◌, length, slice_index, sym, inl, inr, arith}
-use Rattle.std.proofs.Math.Logic.{⊎_map}
+use Rattle.std.proofs.Common.{◌≢◌, ◌∙◌, ℕ, ◌<◌, length, slice_index, arith}
 use Rattle.std.proofs.lemmas.Bool.{cases_eq}
 use Rattle.std.proofs.lemmas.Grind.{common_steps}
 use Rattle.std.proofs.lemmas.List.{get_or-set_same, get_or-set_other, length-set}

@@ -1,4 +1,4 @@
-use Rattle.std.proofs.Common.{rules, ◌≡◌, ◌∙◌, [], set, ap, sym, arith}
+use Rattle.std.proofs.Common.{rules, ◌≡◌, ◌∙◌, [], set, sym, arith}
 use Rattle.std.proofs.lemmas.Bool.{false≢true}
 use Rattle.std.proofs.lemmas.Grind.{common_steps}
 use Rattle.lts.proofs.CallerLemmas.{price_none, price_first, price_one_more}
@@ -9,7 +9,7 @@ use Rattle.inert.proofs.parts.Tops.{walk_of}
 use Rattle.inert.specs.SearchMoves.{IsUnionOfItems}
 use Rattle.inert.proofs.invariant.Resting.{within}
 use Rattle.signatures.proofs.CallerLemmas.{Grow-same}
-use Rattle.inert.proofs.moves.Beginning.{collecting, begins, takes_framed, takes_bare, begun_ends}
+use Rattle.inert.proofs.moves.Beginning.{begins, takes_framed, takes_bare, begun_ends}
 use Rattle.inert.proofs.depth_first_search.DepthFirstSearch.begin.Given.{Over}
 use Rattle.inert.proofs.depth_first_search.DepthFirstSearch.begin.Goals as goal
 use Rattle.inert.proofs.depth_first_search.DepthFirstSearch.begin.Goals.{After-step-step}
