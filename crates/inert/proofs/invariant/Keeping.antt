@@ -1,7 +1,7 @@
 -- A move of the search is, for example, the push of a state or the completion of a component. Suppose that a move does
 -- not change the states below some index of the stack. Then the invariant still holds for these states after the move,
 -- even if the move interns more signatures.
-use Rattle.std.proofs.Common.{◌≡◌, ◌⊎◌, ℕ, ◌<◌, ◌≤◌, List, length, slice_index, inl, inr, arith, rules, get_or}
+use Rattle.std.proofs.Common.{◌≡◌, ◌⊎◌, ◌↔◌, ℕ, ◌<◌, ◌≤◌, List, length, slice_index, inl, inr, arith, rules, get_or}
 use Rattle.std.proofs.lemmas.Grind.{common_steps}
 use Rattle.std.specs.List.{All}
 use Rattle.lts.specs.Lts.{Triple, source_of, place_at}
@@ -48,8 +48,7 @@ roots_kept roots frames items each = record { first = roots.first; ascending = r
 -- An item is a pair (label ID, block) or a signature ID, and a signature ID represents all pairs of its signature. Each
 -- item represents the same pairs before and after more signatures are interned.
 GivesPair-grow : {signatures lists' : List (List (ℕ × ℕ))} → Grow signatures lists' → (x : Item)
-    → IsInternedItem signatures x → (z : ℕ × ℕ)
-    → (GivesPair signatures x z → GivesPair lists' x z) × (GivesPair lists' x z → GivesPair signatures x z)
+    → IsInternedItem signatures x → (z : ℕ × ℕ) → GivesPair signatures x z ↔ GivesPair lists' x z
 GivesPair-grow grow (Pair a b) there z = (λ g. g, λ g. g)
 GivesPair-grow grow (Interned k) there z = search (rules, grow.same)
 

@@ -1,7 +1,6 @@
 -- Lemmas about a search that has not begun or has ended. Some of these lemmas are about the cached signature IDs of the
 -- states.
 use Rattle.std.proofs.Common.{rules, ◌≡◌, ◌⊎◌, ◌∙◌, ℕ, ◌<◌, ◌≤◌, List, length, slice_index, refl, sym, ap, arith}
-use Rattle.std.specs.List.{All}
 use Rattle.std.proofs.lemmas.Bool.{cases_lt}
 use Rattle.std.proofs.lemmas.List.{get_or_past, get_or-map, length-map, nil_from_length}
 use Rattle.std.proofs.lemmas.List.Sums.{count_by-le-length}
@@ -28,11 +27,6 @@ kept_is stages s = search (rules, get_or-map, kept_past, get_or_past)
 pub cached_at : (stages : List VisitState) (s k : ℕ) → stage_at stages s ≡ Completed k
     → slice_index (cached stages) s ≡ k
 cached_at stages s k is = kept_is stages s ∙ ap id_of is
-
--- If each state is completed with the empty signature, all cached signature IDs are 0.
-pub kept_empty : (stages : List VisitState) → All (λ stage. stage ≡ Completed 0) stages → (s : ℕ) →
-    slice_index (cached stages) s ≡ 0
-kept_empty stages all s = grind (arith, cached_at stages s 0, all s Unvisited, kept_past stages s)
 
 -- `AreOthers` holds if each state is completed, except for the active states (the states that the round processes).
 abbrev pub AreOthers : List ℕ → List VisitState → Type 0

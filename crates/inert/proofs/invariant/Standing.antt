@@ -18,17 +18,14 @@ pub pair_before : (laws : Laws) (u : Under) (s t : ℕ) (z : ℕ × ℕ) → Lea
 pair_before laws u s t z tie has = (has.0, laws.path (system_of u.l) (slice_index u.blocks) s t _ z.1 tie has.1)
 
 module _ {u : Under} {signatures : List (List (ℕ × ℕ))} {w : Search} (walks : SearchInvariant u signatures w) where
-  pub roots_some : 0 < length w.stack → 0 < length w.roots
-  roots_some some = grind (arith, walks.roots.first some)
-
   pub frames_some : 0 < length w.stack → 0 < length w.frames
-  frames_some some = omega (arith, (walks.roots.each 0 no_root (roots_some some)).framed.1)
+  frames_some some = grind (arith, walks.roots.first some, walks.roots.each 0 no_root)
 
   pub on_stack : 0 < length w.frames → here w < length w.stack
   on_stack some = (walks.frames.each (length w.frames - 1) no_frame (omega (arith, some))).on_stack
 
   pub last_low : 0 < length w.frames → length w.roots - 1 < length w.roots
-  last_low some = omega (arith, roots_some (omega (arith, on_stack some)))
+  last_low some = grind (arith, on_stack some, walks.roots.first)
 
   -- A frame has the outgoing transitions of a state on the stack that are still to be read. No state that has a frame
   -- is higher on the stack than the state of the last frame.

@@ -82,11 +82,10 @@ module _ {u : Under} {signatures : List (List (ℕ × ℕ))} {w : Search} (walks
         grind (arith, popped_framed, earlier i d h, walks.roots.each i d h)) in
         let frames : AreFrames u.l w.stack (popped w).frames =
         grind (arith, common_steps, AllPairs-take, walks.frames.ascending, All-take, walks.frames.each) in
-        let sound : AreSound u signatures (popped w) = search rules in
         let accounted : AreHandled u signatures (popped w) =
         λ p k lp lk source. accounted_still (Grow-same signatures) walks pop_keeps p k lp lk source
         (λ ahead. inl (ahead_popped p k lk source ahead)) (entered_popped p) in
-        search (rules, walks, roots, frames, sound, accounted)
+        search (rules, walks, roots, frames, accounted)
 
     -- A frame has the outgoing transitions of a state on the stack that are still to be read, and there is a list of
     -- all frames. Suppose that all outgoing transitions of the state of the last frame were read. Then the invariant of

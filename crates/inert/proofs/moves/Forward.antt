@@ -10,9 +10,11 @@ use Rattle.std.proofs.lemmas.List.{get_or-set_same, get_or-set_other}
 use Rattle.std.proofs.lemmas.List.Elements.{All-push, All-take, All-set}
 use Rattle.std.proofs.lemmas.Grind.{elements, common_steps}
 use Rattle.std.proofs.lemmas.List.Quantifiers.{all_pairs_push}
+use Rattle.std.proofs.lemmas.List.Sums.{sum_by_push}
 use Rattle.theory.specs.declared.relation.Relation.TheVariants.{Branching}
 use Rattle.theory.specs.Blocks.{Inert}
 use Rattle.lts.specs.Lts.{system_of, IsRow, place_at}
+use Rattle.lts.specs.Visited.{price_between}
 use Rattle.lts.proofs.CallerLemmas.{row_left}
 use Rattle.signatures.specs.Lists.{Grow}
 use Rattle.signatures.proofs.CallerLemmas.{Grow-same}
@@ -25,7 +27,7 @@ use Rattle.inert.specs.Search.{AreCacheable, Connects, Unvisited, Frame, IsFollo
 use Rattle.inert.proofs.parts.Tops.{here, no_root, no_frame, IsBefore}
 use Rattle.inert.specs.SearchMoves.{with_item, CutsRoots, with_pushed, GoesOn, ahead}
 use Rattle.inert.proofs.parts.Rising.{AllPairs-take, All-from_take}
-use Rattle.inert.proofs.parts.Counting.{unseen-set, unread-set, rest-push}
+use Rattle.inert.proofs.parts.Counting.{unseen-set, unread-set}
 use Rattle.inert.proofs.parts.Stages.{kept_still}
 use Rattle.inert.proofs.invariant.Standing.{reached, on_stack, ties, frames_some, root_low}
 use Rattle.inert.proofs.invariant.Keeping.{KeepsStack, roots_kept, accounted_still, sound_still, done_still, AreSound}
@@ -257,7 +259,7 @@ module _ {u : Under} {signatures : List (List (ℕ × ℕ))} {w : Search} (walks
       entered_on =
           let read = unread-set w.stages t (OnStack n) refl within unseen (remaining u) in
           let row = row_left u.visited u.l.places t start end row in
-          let push = rest-push u.visited w.frames NewFrame in (
+          let push = sum_by_push (λ y. price_between u.visited y.next y.end) w.frames NewFrame in (
             record {
               walks = SearchInvariant-enter;
               seen = grind (arith, stage_of, unseen);

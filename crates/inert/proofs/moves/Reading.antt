@@ -182,16 +182,13 @@ module _ {u : Under} {signatures : List (List (ℕ × ℕ))} {first w : Search} 
   -- These lemmas assume that the transition at the place k (the index k in the list of all transitions) is processed
   -- next.
   module _ (laws : Laws) (lts : IsLts u.l) (more : k < (top first.frames).end) where
-    now_more : k < (top w.frames).end
-    now_more = omega (arith, ap (λ y. y.end) top_is, more)
-
     -- A visit is a counted read of a transition. Reading the transition at the place (index) k takes 0 or 1 visits.
     -- This number of visits is at most the number of visits that the search still has to make.
     pub next_ahead : price u.visited k ≤ ahead u w
     next_ahead =
         let here = ap (λ y. y.next) top_is in
         let most = rest-most u.visited w.frames (length w.frames - 1) (omega (arith, now_some))
-        (omega (arith, here, now_more)) in
+        (omega (arith, here, more, ap (λ y. y.end) top_is)) in
         omega (arith, most, ap (price u.visited) here)
 
     module _ (block : ℕ) (is_block : block ≡ slice_index u.blocks (slice_index first.stack (top first.frames).height))
@@ -206,6 +203,7 @@ module _ {u : Under} {signatures : List (List (ℕ × ℕ))} {first w : Search} 
           → Marked u signatures first (record m { frames = set m.frames i x }) k enters
       taken_first m enters takes =
           let at = ap (λ y. y.next) top_is in
+          let now_more : k < (top w.frames).end = omega (arith, ap (λ y. y.end) top_is, more) in
           let from = source laws lts reads.on.walks now_some at now_more in
           let same_block : block ≡ slice_index u.blocks (source_of (place_at u.l.places k)) =
           grind (arith, is_block, top_is, stays.stack, from) in
