@@ -308,7 +308,8 @@ module _ {u : Under} {signatures : List (List (ℕ × ℕ))} {w : Search} (walks
           grind (arith, walks.roots.each k d h, same_size, places_same)) in
           let frames : AreFrames u.l w.stack Moved.frames = record {
             ascending = λ j k d h l. grind (arith, walks.frames.ascending j k d h, places_same, same_size);
-            each = grind (arith, elements, All-set, walks.frames.each, is, next, more, low);
+            each = let frame = walks.frames.each i no_frame low in
+                All-set (IsFrame u.l w.stack) w.frames i x (rw is (grind (arith, frame, next, more))) walks.frames.each;
           } in
           let sound : AreSound u signatures Moved =
           λ j lj. sound_still grow walks next_keeps j lj (omega arith) (λ p lp _. lp) in

@@ -1,4 +1,4 @@
-use Rattle.std.proofs.Common.{rules, ◌≡◌, ◌∙◌, length, ap, sym, subst, subst₂, arith}
+use Rattle.std.proofs.Common.{◌≡◌, ◌∙◌, length, ap, sym, subst, subst₂, arith}
 use Rattle.std.proofs.Math.Path.{ap₂}
 use Rattle.std.proofs.lemmas.List.{length-map}
 use Rattle.signatures.specs.Lists.{AreIds}
@@ -61,4 +61,13 @@ returns-in-Ok g c = let done = c.in-Ok.ensures in
     c.write_split_ids.ensures.active c.copy_cached_ids.ensures.others c.write_split_ids.ensures.others done.signs in
     let all = rw (is, c.active-active.ensures.active, c.self.view_is) at told in
     let visits = rw is at c.search_all.ensures.visits in
-    search (rules, all, done.grow, visits)
+    record {
+      signed = all.0;
+      changed = all.1;
+      still = all.2;
+      signatures = all.3;
+      signature_ids = all.4;
+      grow = done.grow;
+      visits = visits;
+      others = all.5;
+    }
