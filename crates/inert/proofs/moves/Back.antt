@@ -68,7 +68,8 @@ module _ {u : Under} {signatures : List (List (ℕ × ℕ))} {w : Search} (walks
           let (k, lk, height) = (walks.roots.each j d h).framed in
           let up = walks.frames.ascending k i no_frame in
           grind (arith, up, not_last walks k lk, earlier j d h, high, height, is, low) in
-          inl (here w, rw there at (walks.opened.placed (here w) (on_stack walks some)), λ j d h _. reached walks j d h, down)
+          let placed = walks.opened.placed (here w) (on_stack walks some) in
+          inl (here w, rw there at placed, λ j d h _. reached walks j d h, down)
     ]
 
     ahead_popped : (p k : ℕ) → k < length u.l.places → source_of (place_at u.l.places k) ≡ slice_index w.stack p →
@@ -169,7 +170,8 @@ module _ (laws : Laws) {u : Under} (lts : IsLts u.l) {before signatures : List (
   root_left i d h = let n = length w.roots - 1 in
       let last = get_or_default w.roots n d no_root in
       let same = get_or-take n w.roots i d in
-      grind (arith, h, closes.roots, length-take-le n w.roots, last, same, walks.roots.ascending i n d, walks.roots.each i)
+      let before = walks.roots.ascending i n d in
+      grind (arith, h, closes.roots, length-take-le n w.roots, last, same, before, walks.roots.each i)
 
   -- A root is the first state of a component on the stack. If the last component of the search w is completed, its root
   -- is removed. Suppose that a property P holds for each remaining root and for the removed root. Then P holds for each
@@ -274,7 +276,8 @@ module _ (laws : Laws) {u : Under} (lts : IsLts u.l) {before signatures : List (
     accounted = λ p k lp lk source.
         let low : p < q = omega (arith, lp, size) in
         accounted_still closes.listed.grow walks keeps p k low lk source (λ (i, li, is, ahead).
-        inl (grind (arith, not_last walks i li, low, height, popped_same walks i, closes.frames, is, ahead))) (entered_still p);
+        inl (grind (arith, not_last walks i li, low, height, popped_same walks i, closes.frames, is, ahead)))
+        (entered_still p);
   }
 
   -- Suppose that the component at the top of the stack is completed. Then the invariant of the search still holds

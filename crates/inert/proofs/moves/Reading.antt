@@ -84,7 +84,8 @@ module _ (laws : Laws) {u : Under} (lts : IsLts u.l) {signatures : List (List (�
 
     followed : (m : Search) (enters : Bool) → HandlesStep u.l.places (Goes (target_of e)) w m enters → Taken m enters
     followed m enters (inl (unseen, (start, end, row, new), went)) =
-        let within : target_of e < length w.stages = grind (arith, walks.sizes.size, lts.in_range.each k (0, 0, 0) place_low) in
+        let within : target_of e < length w.stages =
+        grind (arith, walks.sizes.size, lts.in_range.each k (0, 0, 0) place_low) in
         let x : Frame = record { height = length w.stack; next = start; end = end } in
         let (on, ahead) = entered_on walks laws within unseen row (λ _. inert_step inert) in
         let met = entered_met walks laws within unseen row some in
