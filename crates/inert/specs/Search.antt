@@ -1,8 +1,8 @@
 -- Defines the data and the invariant of the depth-first search along inert transitions. The stack of the search is
 -- divided into components: sets of states that inert transitions connect in both directions. The root of a component is
 -- its first state on the stack, and the height of a state is its index on the stack. Each component collects items, and
--- an item is a pair (label ID, block) or the ID of a signature. A frame belongs to a state on the stack whose row (its
--- outgoing transitions) is being read.
+-- an item is a pair (label ID, block) or the ID of a signature. A frame has the outgoing transitions of a state on the
+-- stack that are still to be read.
 use Rattle.std.specs.Prelude.{◌≡◌, ◌⊎◌, ℕ, ◌+◌, ◌-◌, ◌<◌, ◌≤◌, ◌==◌, Bool, true, false, cond, List, [], length, map}
 use Rattle.std.specs.Prelude.{slice_index, slice_index_or}
 use Rattle.std.specs.List.{All, AllPairs, Contains, filter, sum_by, count_by}
@@ -28,8 +28,8 @@ pub use Rattle.inert.specs.declared.item.Item.TheVariants.{Pair, Interned}
 abbrev pub item_of : ℕ → ℕ → Item
 item_of a b = cond (a == INTERNED) (Interned b) (Pair a b)
 
--- The data of the search. The list `stages` has the status of each state: unvisited, on the stack, or completed. There
--- is a frame for each state on the stack whose outgoing transitions are being read. The stack is divided into
+-- The data of the search. The list `stages` has the status of each state: unvisited, on the stack, or completed. Each
+-- frame has the outgoing transitions of a state on the stack that are still to be read. The stack is divided into
 -- components, and there is a root for each component, which is its first state on the stack. The items are the pairs
 -- (label ID, block) and the signature IDs that the components have collected.
 pub record Search : Type 0 where
@@ -112,12 +112,12 @@ pub record AreMarkedUnvisited (old : List VisitState) (active : List ℕ) (w : S
   pub unvisited : (i : ℕ) → i < length active → stage_at w.stages (slice_index active i) ≡ Unvisited
   pub others : (s : ℕ) → IsMember active s ⊎ (stage_at w.stages s ≡ stage_at old s)
 
--- A frame belongs to a state on the stack whose outgoing transitions are being read. Returns the frame at the index i
--- of the list of frames. If there is no frame at this index, all fields of the result are 0.
+-- A frame has the outgoing transitions of a state on the stack that are still to be read. Returns the frame at the
+-- index i of the list of frames. If there is no frame at this index, all fields of the result are 0.
 abbrev pub frame_at : List Frame → ℕ → Frame
 frame_at frames i = slice_index_or frames i (record { height = 0; next = 0; end = 0 })
 
--- A frame belongs to a state on the stack whose outgoing transitions are being read. Returns the last frame of the
+-- A frame has the outgoing transitions of a state on the stack that are still to be read. Returns the last frame of the
 -- list. The state of the last frame is the current state of the search.
 abbrev pub top : List Frame → Frame
 top frames = frame_at frames (length frames - 1)
@@ -198,8 +198,8 @@ AreCacheable u signatures stages = (s k : ℕ) → stage_at stages s ≡ Complet
 
 -- The stack is divided into components, which collect items: pairs (label ID, block) and signature IDs. The root of a
 -- component is its first state on the stack, and has the index at which the items of the component begin. `IsRoot`
--- holds if the root r has a frame (its outgoing transitions are being read), and if this index is at most the number of
--- all items.
+-- holds if the root r has a frame (the search has not yet gone back from this state), and if this index is at most the
+-- number of all items.
 pub record IsRoot (frames : List Frame) (items : List Item) (r : Root) : Type 0 where
   pub framed : (i : ℕ) × (i < length frames) × ((frame_at frames i).height ≡ r.height)
   pub within : r.items ≤ length items
@@ -223,9 +223,9 @@ pub record IsFrame (l : Grouped) (stack : List ℕ) (x : Frame) : Type 0 where
   pub first : start ≤ x.next
   pub most : x.next ≤ x.end
 
--- A frame belongs to a state on the stack whose outgoing transitions are being read. `AreFrames` holds if each frame
--- has transitions of a state on the stack (`IsFrame`), and if the states of the frames are in ascending order of their
--- indices on the stack.
+-- A frame has the outgoing transitions of a state on the stack that are still to be read. `AreFrames` holds if each
+-- frame has transitions of a state on the stack (`IsFrame`), and if the states of the frames are in ascending order of
+-- their indices on the stack.
 pub record AreFrames (l : Grouped) (stack : List ℕ) (frames : List Frame) : Type 0 where
   pub ascending : AllPairs (λ x y. x.height < y.height) frames
   pub each : All (IsFrame l stack) frames

@@ -1,8 +1,8 @@
 -- Defines the moves of the depth-first search along inert transitions, and the measures of its progress. In each move,
--- the search processes a transition, or goes back from a state whose outgoing transitions were all read. A frame
--- belongs to a state on the stack whose row (its outgoing transitions) is being read. The stack is divided into
--- components, which are sets of states that inert transitions connect in both directions. The root of a component is
--- its first state on the stack.
+-- the search processes a transition, or goes back from a state whose outgoing transitions were all read. A frame has
+-- the outgoing transitions of a state on the stack that are still to be read. The stack is divided into components,
+-- which are sets of states that inert transitions connect in both directions. The root of a component is its first
+-- state on the stack.
 use Rattle.std.specs.Prelude.{◌≡◌, ◌⊎◌, ◌↔◌, ℕ, ◌+◌, ◌*◌, ◌-◌, ◌<◌, ◌≤◌, List, [], ◌∷◌, ◌++◌, length, take, drop}
 use Rattle.std.specs.Prelude.{slice_index, slice_set, Bool, IsTrue}
 use Rattle.std.specs.List.{Contains}
@@ -123,8 +123,8 @@ ahead u w = unread (remaining u) w.stages + rest u.visited w.frames
 abbrev pub steps : Search → ℕ
 steps w = 2 * unseen w.stages + length w.frames
 
--- A frame belongs to a state on the stack whose outgoing transitions are being read. `HasRead` holds if all outgoing
--- transitions of the state of the last frame were read.
+-- A frame has the outgoing transitions of a state on the stack that are still to be read. `HasRead` holds if all
+-- outgoing transitions of the state of the last frame were read.
 abbrev pub HasRead : Search → Type 0
 HasRead w = (top w.frames).next ≡ (top w.frames).end
 

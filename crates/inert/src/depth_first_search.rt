@@ -31,9 +31,9 @@ pub(crate) enum VisitState {
     Completed(u32),
 }
 
-/// A frame for a state on the stack whose row (its outgoing transitions) is being read. The height of a state is its
-/// index on the stack. The transitions of the row that have not been read yet are the transitions at the indices
-/// `next..end` in the list of all transitions.
+/// A frame for a state on the stack, whose row consists of its outgoing transitions. The height of a state is its index
+/// on the stack. The transitions of the row that are still to be read are the transitions at the indices `next..end` in
+/// the list of all transitions.
 #[derive(Clone, Copy)]
 pub(crate) struct Frame {
     pub height: u32,
@@ -50,15 +50,15 @@ pub(crate) struct Root {
     pub items: usize,
 }
 
-/// The data of a search. It has the status of each state (`stages`), the stack of states, and a frame for each state
-/// whose outgoing transitions are being read. The stack is divided into components, and the root of a component is its
-/// first state on the stack. The items are the pairs (label ID, target block) and the signature IDs that the components
-/// have collected.
+/// The data of a search. It has the status of each state (`stages`), the stack of states, and the frames. Each frame
+/// has the outgoing transitions of a state on the stack that are still to be read. The stack is divided into
+/// components, and the root of a component is its first state on the stack. The items are the pairs (label ID, target
+/// block) and the signature IDs that the components have collected.
 pub(crate) struct DepthFirstSearch {
     pub stages: Vec<VisitState>,
     /// The stack: the states that were pushed and are not completed, in the order in which they were pushed.
     pub stack: Vec<u32>,
-    /// There is one frame for each state on the stack whose outgoing transitions are being read. The current state of
+    /// Each frame has the outgoing transitions of a state on the stack that are still to be read. The current state of
     /// the search is the state of the last frame.
     pub frames: Vec<Frame>,
     pub roots: Vec<Root>,
@@ -240,8 +240,8 @@ impl DepthFirstSearch {
         }
     }
 
-    /// A frame belongs to a state on the stack whose outgoing transitions are being read. Returns the last frame, whose
-    /// state is the current state of the search.
+    /// A frame has the outgoing transitions of a state on the stack that are still to be read. Returns the last frame,
+    /// whose state is the current state of the search.
     #[inline(always)]
     pub fn top_frame(&self) -> Frame
         requires { 0 < length self.now.frames }

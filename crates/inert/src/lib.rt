@@ -27,7 +27,7 @@
 //! For example, a search can be in the following state:
 //!
 //! * The stack has the states 2, 5, 7, 3 and 9, in the order in which they were pushed.
-//! * The states 2, 7 and 9 have frames, because their outgoing transitions are being read. The current state is 9.
+//! * The states 2, 7 and 9 have frames, because the search has not yet gone back from them. The current state is 9.
 //! * The roots (the first states of the components) are 2 and 7. So there are two components: one with the states 2 and
 //!   5, and one with the states 7, 3 and 9.
 //! * The items of the first component are the pair (a, 1) and the signature ID 4. The items of the second component are

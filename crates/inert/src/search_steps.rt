@@ -131,9 +131,9 @@ impl DepthFirstSearch {
         Ok(false)
     }
 
-    /// A frame belongs to a state on the stack whose outgoing transitions are being read. The function pops the last
-    /// frame after all outgoing transitions of its state were read. If this state is the first state of a component on
-    /// the stack, the component is completed.
+    /// A frame has the outgoing transitions of a state on the stack that are still to be read. The function pops the
+    /// last frame after all outgoing transitions of its state were read. If this state is the first state of a
+    /// component on the stack, the component is completed.
     fn go_back<M: Meter>(&mut self, lens: &Lens<M>, signatures: &mut Interner) -> Result<(), Memory>
         requires walks { SearchInvariant lens.now signatures.old self.old }
         requires some { 0 < length self.old.frames }

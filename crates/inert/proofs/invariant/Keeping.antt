@@ -1,7 +1,7 @@
 -- A move of the search is, for example, the push of a state or the completion of a component. Suppose that a move does
 -- not change the states below some index of the stack. Then the invariant still holds for these states after the move,
 -- even if the move interns more signatures.
-use Rattle.std.proofs.Common.{◌≡◌, ◌⊎◌, ℕ, ◌<◌, ◌≤◌, List, length, slice_index, inl, inr, arith, rules, get_or}
+use Rattle.std.proofs.Common.{◌≡◌, ◌⊎◌, ◌↔◌, ℕ, ◌<◌, ◌≤◌, List, length, slice_index, inl, inr, arith, rules, get_or}
 use Rattle.std.proofs.lemmas.Grind.{common_steps}
 use Rattle.std.specs.List.{All}
 use Rattle.lts.specs.Lts.{Triple, source_of, place_at}
@@ -10,7 +10,7 @@ use Rattle.inert.specs.Steps.{Under}
 use Rattle.inert.specs.Signed.{pair_under}
 use Rattle.inert.specs.SearchMoves.{SignsMore, GoesOn}
 use Rattle.inert.proofs.parts.Stages.{seen_on}
-use Rattle.inert.specs.Search.{Search, VisitState, IsSigned, stage_at, item_at, GivesPair, IsNotBelow, BelongsTo}
+use Rattle.inert.specs.Search.{Search, VisitState, stage_at, item_at, GivesPair, IsNotBelow, BelongsTo}
 use Rattle.inert.specs.Search.{ComponentHasPair, IsToBeRead, IsBeingSearched, IsFollowed, IsHandled, IsSound}
 use Rattle.inert.specs.Search.{IsInternedItem, IsRoot, AreRoots, SearchInvariant, OnStack, Completed, Frame, Root, Item}
 use Rattle.inert.specs.Search.{Pair, Interned}
@@ -38,9 +38,9 @@ pub record KeepsStack (w new : Search) (n : ℕ) : Type 0 where
   pub finished : (s k : ℕ) → stage_at w.stages s ≡ Completed k → stage_at new.stages s ≡ Completed k
 
 -- A root is the first state of a component on the stack, and has the index at which the items of the component begin.
--- An item is a pair (label ID, block) or a signature ID. Suppose that the frames (for the states whose outgoing
--- transitions are being read) and the items change, but not the roots. If each root still satisfies `IsRoot`, then the
--- roots are still in order (`AreRoots`).
+-- An item is a pair (label ID, block) or a signature ID. A frame has the outgoing transitions of a state on the stack
+-- that are still to be read. Suppose that the frames and the items change, but not the roots. If each root still
+-- satisfies `IsRoot`, then the roots are still in order (`AreRoots`).
 pub roots_kept : {w : Search} → AreRoots w → (frames : List Frame) (items : List Item) →
     All (IsRoot frames items) w.roots → AreRoots (record w { frames = frames; items = items })
 roots_kept roots frames items each = record { first = roots.first; ascending = roots.ascending; each = each }
@@ -48,8 +48,7 @@ roots_kept roots frames items each = record { first = roots.first; ascending = r
 -- An item is a pair (label ID, block) or a signature ID, and a signature ID represents all pairs of its signature. Each
 -- item represents the same pairs before and after more signatures are interned.
 GivesPair-grow : {signatures lists' : List (List (ℕ × ℕ))} → Grow signatures lists' → (x : Item)
-    → IsInternedItem signatures x → (z : ℕ × ℕ)
-    → (GivesPair signatures x z → GivesPair lists' x z) × (GivesPair lists' x z → GivesPair signatures x z)
+    → IsInternedItem signatures x → (z : ℕ × ℕ) → GivesPair signatures x z ↔ GivesPair lists' x z
 GivesPair-grow grow (Pair a b) there z = (λ g. g, λ g. g)
 GivesPair-grow grow (Interned k) there z = search (rules, grow.same)
 
@@ -110,13 +109,6 @@ module _ {u : Under} {signatures lists' : List (List (ℕ × ℕ))} (grow : Grow
         λ z g. rw (keeps.states p h) (all z ((give z).1 (rw same at g))),
       )
 
--- If k is the ID of the signature of the state s, it is still the ID of this signature after more signatures are
--- interned.
-signed_grow : {u : Under} {s k : ℕ} {signatures lists' : List (List (ℕ × ℕ))} → Grow signatures lists'
-    → IsSigned u s signatures k →
-    IsSigned u s lists' k
-signed_grow {u = u} {s = s} {k = k} grow was = search rules
-
 -- Suppose that each of two consecutive moves of the search assigns the correct signature ID to each state that it
 -- completes. Then each state that was completed by one of these moves has the correct signature ID after the second
 -- move.
@@ -124,7 +116,7 @@ pub signs_on : (u : Under) (first signatures : List (List (ℕ × ℕ))) (old mi
     → Grow first signatures
     → SignsMore u first old mid → SignsMore u signatures mid new → SignsMore u signatures old new
 signs_on u first signatures old mid new grow were are s k is =
-    grind (arith, are s k is, were s k, signed_grow {u = u} {s = s} {k = k} grow)
+    grind (arith, are s k is, were s k, grow.longer, grow.same)
 
 -- `GoesOn` is transitive: if the search goes on from `old` to `mid` and from `mid` to `new`, it goes on from `old` to
 -- `new`.

@@ -1,9 +1,6 @@
 -- Lemmas about a search that has not begun or has ended. Some of these lemmas are about the cached signature IDs of the
 -- states.
-use Rattle.std.proofs.Common.{rules, ◌≡◌, ◌⊎◌, ◌∙◌, ℕ, ◌<◌, ◌≤◌, List, length, slice_index, refl, sym, ap, inl}
-use Rattle.std.proofs.Common.{inr, arith}
-use Rattle.std.specs.List.{All}
-use Rattle.std.proofs.Math.Logic.{⊎_map}
+use Rattle.std.proofs.Common.{rules, ◌≡◌, ◌⊎◌, ◌∙◌, ℕ, ◌<◌, ◌≤◌, List, length, slice_index, refl, sym, ap, arith}
 use Rattle.std.proofs.lemmas.Bool.{cases_lt}
 use Rattle.std.proofs.lemmas.List.{get_or_past, get_or-map, length-map, nil_from_length}
 use Rattle.std.proofs.lemmas.List.Sums.{count_by-le-length}
@@ -31,11 +28,6 @@ pub cached_at : (stages : List VisitState) (s k : ℕ) → stage_at stages s ≡
     → slice_index (cached stages) s ≡ k
 cached_at stages s k is = kept_is stages s ∙ ap id_of is
 
--- If each state is completed with the empty signature, all cached signature IDs are 0.
-pub kept_empty : (stages : List VisitState) → All (λ stage. stage ≡ Completed 0) stages → (s : ℕ) →
-    slice_index (cached stages) s ≡ 0
-kept_empty stages all s = grind (arith, cached_at stages s 0, all s Unvisited, kept_past stages s)
-
 -- `AreOthers` holds if each state is completed, except for the active states (the states that the round processes).
 abbrev pub AreOthers : List ℕ → List VisitState → Type 0
 AreOthers active stages = (s : ℕ) → s < length stages → IsMember active s ⊎ IsFinished stages s
@@ -44,9 +36,7 @@ AreOthers active stages = (s : ℕ) → s < length stages → IsMember active s 
 -- all states were completed before that.
 module _ {active : List ℕ} {old w : Search} (woken : AreMarkedUnvisited old.stages active w) (over : HasEnded old) where
   others : AreOthers active w.stages
-  others s h =
-      let was = over.all s (omega (arith, h, woken.size)) in
-      ⊎_map (λ one. one) (λ same. (was.0, same ∙ was.1)) (woken.others s)
+  others s h = grind (arith, h, over.all s, woken.size, woken.others s)
 
   pub unvisited : (s : ℕ) → IsMember active s → stage_at w.stages s ≡ Unvisited
   unvisited s one = ap (stage_at w.stages) (sym one.2) ∙ woken.unvisited one.0 one.1
@@ -61,8 +51,7 @@ module _ {active : List ℕ} {old w : Search} (woken : AreMarkedUnvisited old.st
   -- completed.
   pub others_on : {new : List VisitState} → KeepsVisited w.stages new → length new ≡ length old.stages
       → AreOthers active new
-  others_on seen size s h =
-      ⊎_map (λ one. one) (λ is. (is.0, seen.finished s is.0 is.1)) (others s (omega (arith, h, size, woken.size)))
+  others_on seen size s h = grind (arith, h, size, woken.size, others s, seen.finished s)
 
   -- The active states are the states that the round processes. Suppose that the cached signature ID is correct for each
   -- state that is not active but shares a block with an active state. Then a search can begin (`IsAtRest`).
@@ -76,10 +65,8 @@ module _ {active : List ℕ} {old w : Search} (woken : AreMarkedUnvisited old.st
       grind (arith, woken.others s, unvisited s, is, cached_at old.stages s k) in
       record {
         within = let within = signature_ids s 0 in grind (arith, id, within, inside, length-map old.stages id_of);
-        signature = λ t low block. elim (others t (omega (arith, low, size, woken.size))) [
-          | inr done ↦ inl done
-          | inl one ↦ search rules
-        ];
+        signature = λ t low block.
+            grind (arith, others t, are s t, size, inside, low, block, id, woken.size, unvisited s, is);
       } in
       let sizes = woken.size ∙ size in
       search (rules, woken.empty, sizes, some, unless_finished, signed, w.stages, count_by-le-length)
@@ -100,8 +87,8 @@ module _ {u : Under} {signatures : List (List (ℕ × ℕ))} {w : Search} (rests
   pub finished : (s : ℕ) → ¬ (stage_at w.stages s ≡ Unvisited) → IsFinished w.stages s
   finished s found = finished_stage (stage_at w.stages s) found (rests.shut s)
 
--- A frame belongs to a state whose outgoing transitions are being read. If the invariant of the search holds and there
--- is no frame, then no search is in progress (`IsAtRest`).
+-- A frame has the outgoing transitions of a state on the stack that are still to be read. If the invariant of the
+-- search holds and there is no frame, then no search is in progress (`IsAtRest`).
 pub walk_rests : {u : Under} {signatures : List (List (ℕ × ℕ))} {w : Search} → SearchInvariant u signatures w
     → length w.frames ≡ 0
     → IsAtRest u signatures w

@@ -18,23 +18,17 @@ pub pair_before : (laws : Laws) (u : Under) (s t : ℕ) (z : ℕ × ℕ) → Lea
 pair_before laws u s t z tie has = (has.0, laws.path (system_of u.l) (slice_index u.blocks) s t _ z.1 tie has.1)
 
 module _ {u : Under} {signatures : List (List (ℕ × ℕ))} {w : Search} (walks : SearchInvariant u signatures w) where
-  pub roots_some : 0 < length w.stack → 0 < length w.roots
-  roots_some some = grind (arith, walks.roots.first some)
-
   pub frames_some : 0 < length w.stack → 0 < length w.frames
-  frames_some some = omega (arith, (walks.roots.each 0 no_root (roots_some some)).framed.1)
+  frames_some some = grind (arith, walks.roots.first some, walks.roots.each 0 no_root)
 
   pub on_stack : 0 < length w.frames → here w < length w.stack
   on_stack some = (walks.frames.each (length w.frames - 1) no_frame (omega (arith, some))).on_stack
 
-  pub stack_some : 0 < length w.frames → 0 < length w.stack
-  stack_some some = omega (arith, on_stack some)
-
   pub last_low : 0 < length w.frames → length w.roots - 1 < length w.roots
-  last_low some = omega (arith, roots_some (stack_some some))
+  last_low some = grind (arith, on_stack some, walks.roots.first)
 
-  -- A frame belongs to a state on the stack whose outgoing transitions are being read. No state that has a frame is
-  -- higher on the stack than the state of the last frame.
+  -- A frame has the outgoing transitions of a state on the stack that are still to be read. No state that has a frame
+  -- is higher on the stack than the state of the last frame.
   pub frames_up : (i : ℕ) → i < length w.frames → (frame_at w.frames i).height ≤ here w
   frames_up i low = grind (arith, walks.frames.ascending i (length w.frames - 1) no_frame, low)
 
@@ -63,8 +57,7 @@ module _ {u : Under} {signatures : List (List (ℕ × ℕ))} {w : Search} (walks
   -- component. The items that the last component has collected, which are pairs (label ID, block) and signature IDs,
   -- come after the items of all other components.
   pub last_most : All (λ r. (r.height ≤ (last w.roots).height) × (r.items ≤ (last w.roots).items)) w.roots
-  last_most i d h = let root = get_or_default w.roots (length w.roots - 1) d no_root in
-      grind (arith, walks.roots.ascending i (length w.roots - 1) d, root)
+  last_most i d h = grind (arith, walks.roots.ascending i (length w.roots - 1) d, get_or_default)
 
   -- The current state is the state whose outgoing transitions are being read. Paths of inert steps lead from each state
   -- on the stack to the current state.

@@ -3,10 +3,10 @@
 use Rattle.std.proofs.Common.{◌≡◌, ◌≢◌, ℕ, ◌+◌, ◌-◌, ◌<◌, ◌≤◌, List, length, slice_index, sym, ◌∙◌, ap, inl, inr, rules}
 use Rattle.std.proofs.Common.{arith, take, get_or, Contains}
 use Rattle.std.specs.List.{All}
+use Rattle.std.proofs.Math.Logic.{⊎_map}
 use Rattle.std.proofs.lemmas.Bool.{cases_eq, cases_lt}
 use Rattle.std.proofs.lemmas.Grind.{common_steps}
 use Rattle.std.proofs.lemmas.List.{get_or_default, get_or-take, length-take-le, length-append, get_or_append_left}
-use Rattle.std.proofs.lemmas.List.{get_or_push, length_push}
 use Rattle.std.proofs.lemmas.List.Elements.{All-take, All-from_get_or}
 use Rattle.lts.specs.Lts.{source_of, place_at, IsLts}
 use Rattle.signatures.specs.Lists.{list_at}
@@ -21,19 +21,19 @@ use Rattle.inert.specs.SearchMoves.{HasRead, Closes, ahead, SignsMore, GoesOn}
 use Rattle.inert.proofs.parts.Stages.{seen_same, kept_still}
 use Rattle.inert.proofs.parts.Rising.{AllPairs-take, All-from_take}
 use Rattle.inert.proofs.parts.Counting.{unseen-same, unread-same, rest-cut}
-use Rattle.inert.proofs.invariant.Standing.{reached, on_stack, not_last, last_most, none_ahead, pair_before, stack_some}
+use Rattle.inert.proofs.invariant.Standing.{reached, on_stack, not_last, last_most, none_ahead, pair_before}
 use Rattle.inert.proofs.invariant.Standing.{last_low, root_low}
 use Rattle.inert.proofs.invariant.Keeping.{KeepsStack, roots_kept, accounted_still, sound_still, AreSound}
 use Rattle.inert.proofs.signatures.Exact.{exact}
 
--- There is a list of frames, one for each state on the stack whose outgoing transitions are being read. Returns the
--- search w after the last frame of this list was removed. The stack of states does not change.
+-- A frame has the outgoing transitions of a state on the stack that are still to be read, and there is a list of all
+-- frames. Returns the search w after the last frame of this list was removed. The stack of states does not change.
 abbrev pub popped : Search → Search
 popped w = record w { frames = take (length w.frames - 1) w.frames }
 
 module _ {u : Under} {signatures : List (List (ℕ × ℕ))} {w : Search} (walks : SearchInvariant u signatures w) where
-  -- There is a list of frames, one for each state whose outgoing transitions are being read. Popping the last frame
-  -- reduces the length of this list by one.
+  -- A frame has the outgoing transitions of a state on the stack that are still to be read, and there is a list of all
+  -- frames. Popping the last frame reduces the length of this list by one.
   pub popped_size : length (popped w).frames ≡ length w.frames - 1
   popped_size = length-take-le (length w.frames - 1) w.frames (omega arith)
 
@@ -41,16 +41,15 @@ module _ {u : Under} {signatures : List (List (ℕ × ℕ))} {w : Search} (walks
       × (frame_at (popped w).frames i ≡ frame_at w.frames i)
   popped_same i h = (omega (arith, popped_size, h), get_or-take (length w.frames - 1) w.frames i no_frame h)
 
-  -- A frame belongs to a state on the stack whose outgoing transitions are being read. If a state with a frame is below
-  -- the state of the last frame on the stack, it still has a frame after the last frame was popped.
+  -- A frame has the outgoing transitions of a state on the stack that are still to be read. If a state with a frame is
+  -- below the state of the last frame on the stack, it still has a frame after the last frame was popped.
   popped_framed : (p : ℕ) → p < here w → (i : ℕ) × (i < length w.frames) × ((frame_at w.frames i).height ≡ p)
       → (i : ℕ) × (i < length (popped w).frames) × ((frame_at (popped w).frames i).height ≡ p)
-  popped_framed p before (i, low, is) = let low' = not_last walks i low (omega (arith, is, before)) in
-      grind (arith, popped_same i low', is)
+  popped_framed p before (i, low, is) = grind (arith, not_last walks i low, before, popped_same i, is)
 
-  -- A frame belongs to a state on the stack whose outgoing transitions are being read. These lemmas assume that all
-  -- outgoing transitions of the state of the last frame were read, and that this state is not the root of a component
-  -- (its first state on the stack).
+  -- A frame has the outgoing transitions of a state on the stack that are still to be read. These lemmas assume that
+  -- all outgoing transitions of the state of the last frame were read, and that this state is not the root of a
+  -- component (its first state on the stack).
   module _ (some : 0 < length w.frames) (read : HasRead w) (apart : (last w.roots).height ≢ here w) where
     pop_keeps : KeepsStack w (popped w) (length w.stack)
     pop_keeps = grind arith
@@ -58,30 +57,25 @@ module _ {u : Under} {signatures : List (List (ℕ × ℕ))} {w : Search} (walks
     -- The current state is the state whose outgoing transitions were just read. If the current state is not the root of
     -- a component (its first state on the stack), all roots are below the current state on the stack.
     earlier : All (λ r. r.height < here w) w.roots
-    earlier i d h = let most = last_most walks i d h in
-        let reach = reached walks (length w.roots - 1) no_root (omega (arith, h)) in
-        omega (arith, most.0, reach, apart)
+    earlier i d h = grind (arith, last_most walks i d h, reached walks (length w.roots - 1) no_root, apart, h)
 
     entered_popped : (p t : ℕ) → IsBeingSearched w p t → IsFollowed signatures (popped w) p t
     entered_popped p t (i, low, is, to) = elim (cases_lt (i + 1) (length w.frames - 1)) [
       | inl low' ↦ inr (inr (grind (arith, popped_same i, popped_same (i + 1), low', is, to)))
       | inr high ↦
-          let e : i + 1 ≡ length w.frames - 1 = omega (arith, low, high) in
-          let there : slice_index w.stack (here w) ≡ t = rw e at to in
-          let placed = walks.opened.placed (here w) (on_stack walks some) in
+          let there : slice_index w.stack (here w) ≡ t = grind (arith, low, high, to) in
           let down : IsNotBelow w.roots (here w) p = λ j d h _.
           let (k, lk, height) = (walks.roots.each j d h).framed in
-          let less = not_last walks k lk (omega (arith, earlier j d h, height)) in
-          let up = walks.frames.ascending k i no_frame in grind (arith, up, less, e, height, is, low) in
+          let up = walks.frames.ascending k i no_frame in
+          grind (arith, up, not_last walks k lk, earlier j d h, high, height, is, low) in
+          let placed = walks.opened.placed (here w) (on_stack walks some) in
           inl (here w, rw there at placed, λ j d h _. reached walks j d h, down)
     ]
 
     ahead_popped : (p k : ℕ) → k < length u.l.places → source_of (place_at u.l.places k) ≡ slice_index w.stack p →
         IsToBeRead w p k → IsToBeRead (popped w) p k
-    ahead_popped p k lk source (i, low, is, ahead) = elim (cases_lt i (length w.frames - 1)) [
-      | inl low' ↦ grind (arith, popped_same i low', is, ahead)
-      | inr high ↦ absurd (none_ahead walks read p k i lk source low (omega (arith, low, high)) is ahead)
-    ]
+    ahead_popped p k lk source (i, low, is, ahead) =
+        grind (arith, popped_same i, none_ahead walks read p k i lk source low, low, is, ahead)
 
     SearchInvariant-pop : SearchInvariant u signatures (popped w)
     SearchInvariant-pop =
@@ -89,19 +83,18 @@ module _ {u : Under} {signatures : List (List (ℕ × ℕ))} {w : Search} (walks
         grind (arith, popped_framed, earlier i d h, walks.roots.each i d h)) in
         let frames : AreFrames u.l w.stack (popped w).frames =
         grind (arith, common_steps, AllPairs-take, walks.frames.ascending, All-take, walks.frames.each) in
-        let sound : AreSound u signatures (popped w) = search rules in
         let accounted : AreHandled u signatures (popped w) =
         λ p k lp lk source. accounted_still (Grow-same signatures) walks pop_keeps p k lp lk source
         (λ ahead. inl (ahead_popped p k lk source ahead)) (entered_popped p) in
-        search (rules, walks, roots, frames, sound, accounted)
+        search (rules, walks, roots, frames, accounted)
 
-    -- There is a list of frames, one for each state on the stack whose outgoing transitions are being read. Suppose
-    -- that all outgoing transitions of the state of the last frame were read. Then the invariant of the search still
-    -- holds after this frame was removed from the list (`GoesOn`).
+    -- A frame has the outgoing transitions of a state on the stack that are still to be read, and there is a list of
+    -- all frames. Suppose that all outgoing transitions of the state of the last frame were read. Then the invariant of
+    -- the search still holds after this frame was removed from the list (`GoesOn`).
     pub popped_on : GoesOn u signatures w (popped w)
     popped_on = record { walks = SearchInvariant-pop; seen = seen_same w.stages; signs = λ s k is. inl is }
 
--- A frame belongs to a state on the stack whose outgoing transitions are being read. These lemmas assume that all
+-- A frame has the outgoing transitions of a state on the stack that are still to be read. These lemmas assume that all
 -- outgoing transitions of the state of the last frame were read, and that this state is the root of a component (its
 -- first state on the stack). They also assume that this component was then completed.
 module _ (laws : Laws) {u : Under} (lts : IsLts u.l) {before signatures : List (List (ℕ × ℕ))} {w new : Search}
@@ -133,10 +126,6 @@ module _ (laws : Laws) {u : Under} (lts : IsLts u.l) {before signatures : List (
   state_same : (p : ℕ) → p < q → slice_index new.stack p ≡ slice_index w.stack p
   state_same p h = ap (λ l. slice_index l p) closes.stack ∙ get_or-take q w.stack p 0 h
 
-  frame_same : (i : ℕ) → i < length w.frames - 1 → (i < length new.frames)
-      × (frame_at new.frames i ≡ frame_at w.frames i)
-  frame_same i h = rw closes.frames (popped_same walks i h)
-
   before_last : All (λ x. x.height < q) (popped w).frames
   before_last i d h = let frame = get_or_default w.frames (length w.frames - 1) d no_frame in
       grind (arith, get_or-take, popped_size walks, walks.frames.ascending i (length w.frames - 1) d, frame, height, h)
@@ -145,16 +134,12 @@ module _ (laws : Laws) {u : Under} (lts : IsLts u.l) {before signatures : List (
   same_unseen s = grind (arith, closes.stages.others s, walks.opened.placed, closes.stages.members)
 
   closed_seen : KeepsVisited w.stages new.stages
-  closed_seen = record {
-    unseen = λ s is. grind (arith, closes.stages.others s, closes.stages.members, is);
-    finished = λ s k is. grind (arith, closes.stages.others s, walks.opened.placed, is);
-  }
+  closed_seen = grind (arith, closes.stages.others, closes.stages.members, walks.opened.placed)
 
   closed_signs : SignsMore u signatures w.stages new.stages
-  closed_signs s k is = elim (closes.stages.others s) [
-    | inl e ↦ inl (sym e ∙ is)
-    | inr (m, from, high, same) ↦ inr (grind (arith, closes.stages.members m, signed m, from, high, same, is))
-  ]
+  closed_signs s k is = ⊎_map (λ e. sym e ∙ is)
+      (λ (m, from, high, same). grind (arith, closes.stages.members m, signed m, from, high, same, is))
+      (closes.stages.others s)
 
   -- The stack is divided into components, which collect items: pairs (label ID, block) and signature IDs. The items of
   -- the completed component begin at the index `c0` of the list of items. The first `c0` items belong to other
@@ -168,10 +153,7 @@ module _ (laws : Laws) {u : Under} (lts : IsLts u.l) {before signatures : List (
   -- completed component is now the last item in the list of all items. Otherwise no item is added.
   item_new : 0 < length new.frames → (length new.items ≡ c0 + 1)
       × (item_at new.items c0 ≡ Interned closes.id)
-  item_new more = let is = closes.led (omega (arith, ap length closes.frames, more)) in
-      let size = length-take-le c0 w.items few in let last = get_or_push (take c0 w.items)
-      (Interned closes.id) _ c0 size in
-      (omega (arith, ap length is, length_push (take c0 w.items), size), ap (λ l. item_at l c0) is ∙ last)
+  item_new more = grind (arith, common_steps, closes.led, closes.frames, more, length-take-le c0 w.items few)
 
   no_item : length new.frames ≡ 0 → length new.items ≡ c0
   no_item none = ap length (closes.alone (sym (ap length closes.frames) ∙ none)) ∙ length-take-le c0 w.items few
@@ -186,12 +168,10 @@ module _ (laws : Laws) {u : Under} (lts : IsLts u.l) {before signatures : List (
       × (get_or new.roots i d ≡ get_or w.roots i d) × IsRoot w.frames w.items (get_or w.roots i d)
       × IsBefore (get_or w.roots i d) (last w.roots)
   root_left i d h = let n = length w.roots - 1 in
-      let low : i < n = omega (arith, h, ap length closes.roots, length-take-le n w.roots (omega arith)) in
-      let within : i < length w.roots = omega (arith, low) in
-      let last = get_or_default w.roots n d no_root (omega (arith, low)) in
-      let before = rw last at (walks.roots.ascending i n d low (omega (arith, low))) in
-      let same = ap (λ l. get_or l i d) closes.roots ∙ get_or-take n w.roots i d low in
-      (within, same, walks.roots.each i d within, before)
+      let last = get_or_default w.roots n d no_root in
+      let same = get_or-take n w.roots i d in
+      let before = walks.roots.ascending i n d in
+      grind (arith, h, closes.roots, length-take-le n w.roots, last, same, before, walks.roots.each i)
 
   -- A root is the first state of a component on the stack. If the last component of the search w is completed, its root
   -- is removed. Suppose that a property P holds for each remaining root and for the removed root. Then P holds for each
@@ -240,9 +220,8 @@ module _ (laws : Laws) {u : Under} (lts : IsLts u.l) {before signatures : List (
         let there : slice_index w.stack q ≡ t = grind (arith, e, height, to) in
         inr (inl (closes.id, grind (arith, there, closes.stages.members q, low_q), rw (← at) (back_holds more)))
     | inr d ↦
-        let before = before_last (i + 1) no_frame in
-        let same = popped_same walks (i + 1) in
-        inr (inr (grind (arith, frame_same i, frame_same (i + 1), low, d, is, to, same, state_same, before)))
+        let before = before_last (i + 1) no_frame in let same = popped_same walks in
+        inr (inr (grind (arith, same i, same (i + 1), closes.frames, low, d, is, to, state_same, before)))
   ]
 
   opened : AreOpen new.stages new.stack
@@ -273,7 +252,7 @@ module _ (laws : Laws) {u : Under} (lts : IsLts u.l) {before signatures : List (
     signed = λ s k is. let still = kept_still closes.listed.grow u w.stages new.stages closed_seen.finished s k in
         grind (arith, closed_signs s k is, still, walks.signed s k);
     roots = record {
-      first = λ h all. walks.roots.first (stack_some walks some) (root_back (λ r. 0 < r.height) all
+      first = λ h all. walks.roots.first (omega (arith, low_q)) (root_back (λ r. 0 < r.height) all
           (omega (arith, h, size)));
       ascending = rw closes.roots (AllPairs-take IsBefore (length w.roots - 1) w.roots walks.roots.ascending);
       each = λ i d h. let (low, same, root, before) = root_left i d h in
@@ -286,12 +265,8 @@ module _ (laws : Laws) {u : Under} (lts : IsLts u.l) {before signatures : List (
       each = λ i d h. let was = All-take (IsFrame u.l w.stack) (length w.frames - 1) w.frames walks.frames.each i d h in
           grind (arith, was, before_last i d h, size, state_same);
     });
-    connects = λ p r lp lr h.
-        let low : p < q = omega (arith, lp, size) in
-        let low' : r < q = omega (arith, lr, size) in
-        rw (state_same p low, state_same r low')
-        (walks.connects p r (omega (arith, low, low_q)) (omega (arith, low', low_q))
-        (root_back (λ x. x.height ≤ p → x.height ≤ r) h (λ le. absurd (omega (arith, le, low)))));
+    connects = λ p r lp lr h. let back = root_back (λ x. x.height ≤ p → x.height ≤ r) h in
+        grind (arith, lp, lr, size, low_q, state_same, walks.connects p r, back);
     there = let within = (signed q (omega arith) low_q).within in
         All-from_get_or (IsInternedItem signatures) new.items (Pair 0 0)
         (each_item (λ j. IsInternedItem signatures (item_at new.items j))
@@ -300,9 +275,9 @@ module _ (laws : Laws) {u : Under} (lts : IsLts u.l) {before signatures : List (
     sound = sound;
     accounted = λ p k lp lk source.
         let low : p < q = omega (arith, lp, size) in
-        accounted_still closes.listed.grow walks keeps p k low lk source
-        (λ (i, li, is, ahead). let before = not_last walks i li (omega (arith, is, low, height)) in
-        inl (grind (arith, frame_same i before, is, ahead))) (entered_still p);
+        accounted_still closes.listed.grow walks keeps p k low lk source (λ (i, li, is, ahead).
+        inl (grind (arith, not_last walks i li, low, height, popped_same walks i, closes.frames, is, ahead)))
+        (entered_still p);
   }
 
   -- Suppose that the component at the top of the stack is completed. Then the invariant of the search still holds

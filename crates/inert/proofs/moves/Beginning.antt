@@ -6,7 +6,7 @@ use Rattle.std.proofs.Common.{ap, inl, inr, arith}
 use Rattle.std.proofs.lemmas.List.{get_or-set_same, get_or-set_other}
 use Rattle.lts.specs.Lts.{place_at, IsLts, IsRow}
 use Rattle.lts.specs.Visited.{price_between}
-use Rattle.lts.proofs.CallerLemmas.{row_left, price_none, price_split}
+use Rattle.lts.proofs.CallerLemmas.{price_none, price_split}
 use Rattle.inert.specs.Steps.{Under, remaining, IsStep}
 use Rattle.inert.specs.Search.{Search, Laws, nothing, stage_at, VisitState, Unvisited, OnStack, Completed, Item, unread}
 use Rattle.inert.proofs.parts.Tops.{no_frame}
@@ -14,12 +14,10 @@ use Rattle.inert.specs.SearchMoves.{with_pushed, LeadsOn, HandlesStep, Finishes,
 use Rattle.inert.specs.SearchMoves.{IsUnionOfItems}
 use Rattle.inert.specs.declared.lens.Step.{Step}
 use Rattle.inert.specs.declared.lens.Step.TheVariants.{Inert as Goes, Shows}
-use Rattle.inert.proofs.parts.Stages.{seen_more, signs_opened}
 use Rattle.signatures.proofs.CallerLemmas.{Grow-same}
 use Rattle.inert.proofs.invariant.Keeping.{goes_on}
-use Rattle.inert.proofs.parts.Counting.{unread-set}
 use Rattle.inert.proofs.invariant.Resting.{idle_walks, within}
-use Rattle.inert.proofs.moves.Forward.{SearchInvariant-enter}
+use Rattle.inert.proofs.moves.Forward.{entered_on}
 use Rattle.inert.proofs.moves.Reading.{Stays, reads_none, marked}
 use Rattle.inert.proofs.moves.Back.{popped, closed}
 
@@ -51,13 +49,9 @@ pub begins : {u : Under} {signatures : List (List (ℕ × ℕ))} {w : Search} {s
     → Begins u signatures w s start start (framed s start end w.stages w.items)
 begins {u = u} {signatures = signatures} {w = w} {s = s} {start = start} {end = end} laws rests inside none row =
     let low = within rests inside in
-    let walks = SearchInvariant-enter (idle_walks rests) laws low none row (λ some. absurd (omega (arith, some))) in
-    let seen = seen_more w.stages s (OnStack 0) (λ e. cc) low none in
-    let signs = signs_opened u signatures w.stages s (OnStack 0) (λ k e. cc) low in
-    let read = unread-set w.stages s (OnStack 0) refl low none (remaining u) in
-    let own = row_left u.visited u.l.places s start end row in
+    let (on, ahead) = entered_on (idle_walks rests) laws low none row (λ some. absurd (omega (arith, some))) in
     let now = get_or-set_same w.stages s (OnStack 0) Unvisited low in
-    rw (ap (λ w. w.items) rests.empty) (grind (arith, walks, seen, signs, read, own, now, price_none u.visited start))
+    rw (ap (λ w. w.items) rests.empty) (grind (arith, on, ahead, now, price_none u.visited start))
 
 module _ (laws : Laws) {u : Under} (lts : IsLts u.l) {signatures : List (List (ℕ × ℕ))} {old w : Search}
     {s start end k : ℕ}
@@ -65,9 +59,6 @@ module _ (laws : Laws) {u : Under} (lts : IsLts u.l) {signatures : List (List (�
     (framed s k end old.stages w.items)) where
   abbrev Framed : Search
   Framed = framed s k end old.stages w.items
-
-  some : 0 < length Framed.frames
-  some = omega arith
 
   -- These lemmas assume that the transition at the place k (the index k in the list of all transitions) belongs to the
   -- first state s of the search, and is read next.
@@ -85,8 +76,8 @@ module _ (laws : Laws) {u : Under} (lts : IsLts u.l) {signatures : List (List (�
         HandlesStep u.l.places step (framed s (k + 1) end old.stages w.items) m enters → Next m
     takes_framed step enters is takes =
         let none : Stays Framed Framed = record { size = refl; stack = refl; unseen = refl } in
-        let one = (marked (reads_none begun.on.walks some) none some laws lts more (slice_index u.blocks s) refl step is
-        refl refl takes).reads in
+        let one = (marked (reads_none begun.on.walks (omega arith)) none (omega arith) laws lts more
+        (slice_index u.blocks s) refl step is refl refl takes).reads in
         let on = goes_on (Grow-same signatures) begun.on one.on in
         let price = price_split u.visited start k (k + 1) begun.forward (omega arith) in
         grind (arith, on, begun.found, one.on.seen.unseen s, one.less, begun.less, begun.forward, price)

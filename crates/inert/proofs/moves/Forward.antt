@@ -2,7 +2,7 @@
 -- pair (label ID, block) or a signature ID, or merges components of the stack, or pushes a state, or marks a transition
 -- as read.
 use Rattle.std.proofs.Common.{◌≡◌, ◌≢◌, ℕ, ◌+◌, ◌<◌, List, length, slice_index, refl, inl, inr, arith, ◌-◌, ◌≤◌, rules}
-use Rattle.std.proofs.Common.{◌∙◌, ap, ◌⊎◌, set, get_or}
+use Rattle.std.proofs.Common.{◌∙◌, ◌⊎◌, set, get_or}
 use Rattle.std.specs.List.{All}
 use Rattle.std.proofs.lemmas.Bool.{cases_lt, cases_eq}
 use Rattle.std.proofs.lemmas.List.{get_or_append_left, get_or_push, length_push, get_or_default, length-set}
@@ -10,21 +10,24 @@ use Rattle.std.proofs.lemmas.List.{get_or-set_same, get_or-set_other}
 use Rattle.std.proofs.lemmas.List.Elements.{All-push, All-take, All-set}
 use Rattle.std.proofs.lemmas.Grind.{elements, common_steps}
 use Rattle.std.proofs.lemmas.List.Quantifiers.{all_pairs_push}
+use Rattle.std.proofs.lemmas.List.Sums.{sum_by_push}
 use Rattle.theory.specs.declared.relation.Relation.TheVariants.{Branching}
 use Rattle.theory.specs.Blocks.{Inert}
 use Rattle.lts.specs.Lts.{system_of, IsRow, place_at}
+use Rattle.lts.specs.Visited.{price_between}
+use Rattle.lts.proofs.CallerLemmas.{row_left}
 use Rattle.signatures.specs.Lists.{Grow}
 use Rattle.signatures.proofs.CallerLemmas.{Grow-same}
-use Rattle.inert.specs.Steps.{Under}
+use Rattle.inert.specs.Steps.{Under, remaining}
 use Rattle.inert.specs.Signed.{HasPair}
 use Rattle.inert.specs.Search.{HasVisitStates, Search, item_at, IsInternedItem, BelongsTo, GivesPair, ComponentHasPair}
 use Rattle.inert.specs.Search.{SearchInvariant, Item, Laws, stage_at, IsNotBelow, IsRoot, IsInComponent, Root, OnStack}
 use Rattle.inert.specs.Search.{frame_at, IsFrame, IsBeingSearched, IsToBeRead, AreOpen, AreRoots, AreFrames, AreHandled}
 use Rattle.inert.specs.Search.{AreCacheable, Connects, Unvisited, Frame, IsFollowed, IsHandled}
 use Rattle.inert.proofs.parts.Tops.{here, no_root, no_frame, IsBefore}
-use Rattle.inert.specs.SearchMoves.{with_item, CutsRoots, with_pushed}
+use Rattle.inert.specs.SearchMoves.{with_item, CutsRoots, with_pushed, GoesOn, ahead}
 use Rattle.inert.proofs.parts.Rising.{AllPairs-take, All-from_take}
-use Rattle.inert.proofs.parts.Counting.{unseen-set}
+use Rattle.inert.proofs.parts.Counting.{unseen-set, unread-set}
 use Rattle.inert.proofs.parts.Stages.{kept_still}
 use Rattle.inert.proofs.invariant.Standing.{reached, on_stack, ties, frames_some, root_low}
 use Rattle.inert.proofs.invariant.Keeping.{KeepsStack, roots_kept, accounted_still, sound_still, done_still, AreSound}
@@ -170,21 +173,10 @@ module _ {u : Under} {signatures : List (List (ℕ × ℕ))} {w : Search} (walks
     -- After the state t is pushed at the index n of the stack, its status is `OnStack n`. No other status has changed.
     stage_of : (s : ℕ) → ((s ≡ t) × (stage_at Entered.stages s ≡ OnStack n))
         ⊎ (stage_at Entered.stages s ≡ stage_at w.stages s) × (s ≢ t)
-    stage_of s = elim (cases_eq s t) [
-      | inl e ↦ inl (e, rw e (get_or-set_same w.stages t (OnStack n) Unvisited within))
-      | inr other ↦ inr (get_or-set_other w.stages t s (OnStack n) Unvisited other, other)
-    ]
+    stage_of s = grind (arith, elements, cases_eq s t, within)
 
     enter_keeps : KeepsStack w Entered n
-    enter_keeps = record {
-      within = omega arith;
-      states = state_same;
-      below = λ p q h low up. low;
-      roots = grind (arith, get_or_append_left, length_push, get_or_push);
-      items = λ j p low h of. (low, refl);
-      opened = λ s p low is. grind (arith, stage_of s, unseen, is);
-      finished = λ s k is. grind (arith, stage_of s, unseen, is);
-    }
+    enter_keeps = grind (arith, state_same, get_or_append_left, length_push, get_or_push, stage_of, unseen)
 
     -- The current state is the state whose outgoing transitions are being read. If the search pushes the state t, it
     -- has gone from the current state to t, and has not yet returned from t (`IsBeingSearched`).
@@ -200,18 +192,15 @@ module _ {u : Under} {signatures : List (List (ℕ × ℕ))} {w : Search} (walks
 
     opened : AreOpen Entered.stages Entered.stack
     opened = record {
-      placed = λ p h. let old = stage_of (slice_index w.stack p) in let new = stage_of t in
-          grind (arith, walks.opened.placed p, old, new, state_same p, state_new, unseen, size, h);
+      placed = λ p h. grind (arith, walks.opened.placed p, stage_of, state_same p, state_new, unseen, size, h);
       only = λ s p is. grind (arith, stage_of s, walks.opened.only s p, state_same p, state_new, size, is);
     }
 
     roots : AreRoots Entered
     roots = record {
-      first = λ _ all. elim (cases_eq n 0) [
-        | inl e ↦ let new = get_or_push w.roots NewRoot no_root (length w.roots) refl in
-            grind (arith, all (length w.roots) no_root, length_push w.roots NewRoot, new, e)
-        | inr d ↦ walks.roots.first (omega (arith, d)) (before_new (λ r. 0 < r.height) all)
-      ];
+      first = λ _ all. let new = get_or_push w.roots NewRoot no_root (length w.roots) refl in
+          let before = before_new (λ r. 0 < r.height) all in
+          grind (arith, all (length w.roots) no_root, length_push w.roots NewRoot, new, walks.roots.first, before);
       ascending = grind (arith, common_steps, all_pairs_push, walks.roots.ascending, root_low, walks.roots.each);
       each = All-push (IsRoot Entered.frames Entered.items) w.roots NewRoot
           (λ i d h. grind (arith, walks.roots.each i d h, frame_same, frames_size))
@@ -252,7 +241,7 @@ module _ {u : Under} {signatures : List (List (ℕ × ℕ))} {w : Search} (walks
             rw e (laws.here (system_of u.l) (slice_index u.blocks) (slice_index Entered.stack q))
       ]
 
-      pub SearchInvariant-enter : SearchInvariant u signatures Entered
+      SearchInvariant-enter : SearchInvariant u signatures Entered
       SearchInvariant-enter =
           let fewer = unseen-set w.stages t (OnStack n) refl within unseen in
           let signed : AreCacheable u signatures Entered.stages = λ s k is.
@@ -263,6 +252,21 @@ module _ {u : Under} {signatures : List (List (ℕ × ℕ))} {w : Search} (walks
           let sizes : HasVisitStates u.l.states (length signatures) (length Entered.stack) Entered.stages =
           grind (arith, walks.sizes, length-set, size, fewer) in
           search (rules, walks, sizes, opened, signed, roots, frames, connects, sound, accounted)
+
+      -- If the search pushes the state t, its invariant still holds (`GoesOn`), and the number of visits (counted reads
+      -- of transitions) that are still to be made does not change.
+      pub entered_on : GoesOn u signatures w Entered × (ahead u Entered ≡ ahead u w)
+      entered_on =
+          let read = unread-set w.stages t (OnStack n) refl within unseen (remaining u) in
+          let row = row_left u.visited u.l.places t start end row in
+          let push = sum_by_push (λ y. price_between u.visited y.next y.end) w.frames NewFrame in (
+            record {
+              walks = SearchInvariant-enter;
+              seen = grind (arith, stage_of, unseen);
+              signs = λ s k is. inl (grind (arith, stage_of s, is));
+            },
+            omega (arith, read, row, push),
+          )
 
   -- A frame has the outgoing transitions of a state that are still to be read. These lemmas assume that the transition
   -- at the place (index) m is the first transition of the frame i, and that this transition is marked as read.
@@ -289,18 +293,13 @@ module _ {u : Under} {signatures : List (List (ℕ × ℕ))} {w : Search} (walks
       -- and is now marked as read. If any other transition was still to be read before, it is still to be read now.
       next_ahead : (p k : ℕ) → p < length w.stack → IsToBeRead w p k →
           IsToBeRead Moved p k ⊎ IsHandled u signatures Moved p (place_at u.l.places k)
-      next_ahead p k lp (j, lj, at, ahead) = elim (cases_eq j i) [
-        | inr d ↦ let other = get_or-set_other w.frames i j x no_frame d in
-            inl (grind (arith, lj, same_size, other, at, ahead))
-        | inl e ↦
-            let at' : (frame_at w.frames i).height ≡ p = rw e at at in
-            elim (cases_eq m k) [
-              | inl e' ↦ inr (done_still grow walks next_keeps p (place_at u.l.places k) lp (next_entered p)
-                  (rw (← at', ← e') done))
-              | inr d' ↦
-                  let now = ap (λ y. y.next) (get_or-set_same w.frames i x no_frame low ∙ is) in
-                  inl (grind (arith, low, same_size, places_same i no_frame, at', ahead, e, now, next, d'))
-            ]
+      next_ahead p k lp (j, lj, at, ahead) = elim (cases_lt k (frame_at Moved.frames j).next) [
+        | inr still ↦ inl (j, omega (arith, lj, same_size), places_same j no_frame ∙ at, omega (arith, still))
+        | inl read ↦
+            let same : j ≡ i = grind (arith, cases_eq j i, get_or-set_other w.frames i j x no_frame, ahead, read) in
+            let first : k ≡ m = grind (arith, same, get_or-set_same w.frames i x no_frame low, is, next, ahead, read) in
+            inr (done_still grow walks next_keeps p (place_at u.l.places k) lp (next_entered p)
+            (rw (first, ← at, same) done))
       ]
 
       pub SearchInvariant-next : SearchInvariant u signatures Moved

@@ -9,25 +9,23 @@ use Rattle.theory.specs.declared.relation.Relation.TheVariants.{Branching}
 use Rattle.theory.specs.Blocks.{Inert}
 use Rattle.lts.specs.Lts.{Triple, source_of, target_of, place_at, system_of, IsLts}
 use Rattle.lts.specs.Visited.{price, price_between}
-use Rattle.lts.proofs.CallerLemmas.{row_left, price_none, price_one_more}
+use Rattle.lts.proofs.CallerLemmas.{price_none, price_one_more}
 use Rattle.inert.specs.Signed.{HasPair, pair_under}
-use Rattle.inert.specs.Steps.{Under, remaining, IsInert, IsStep}
+use Rattle.inert.specs.Steps.{Under, IsInert, IsStep}
 use Rattle.inert.specs.Search.{Search, Laws, frame_at, top, IsFrame, IsFollowed, IsHandled, SearchInvariant, OnStack}
-use Rattle.inert.specs.Search.{Frame, Root}
-use Rattle.inert.specs.Search.{Item, Pair, Interned, unseen}
+use Rattle.inert.specs.Search.{Frame, Root, Item, Pair, Interned, unseen}
 use Rattle.inert.proofs.parts.Tops.{no_frame, here}
 use Rattle.inert.specs.SearchMoves.{with_pushed, with_item, HandlesStep, ahead, steps, GoesOn}
 use Rattle.inert.specs.declared.lens.Step.{Step as TakenStep}
 use Rattle.inert.specs.declared.lens.Step.TheVariants.{Inert as Goes, Shows}
-use Rattle.inert.proofs.parts.Stages.{seen_same, seen_more, signs_opened}
+use Rattle.inert.proofs.parts.Stages.{seen_same}
 use Rattle.signatures.proofs.CallerLemmas.{Grow-same}
 use Rattle.inert.proofs.invariant.Keeping.{goes_on}
-use Rattle.inert.proofs.parts.Counting.{unseen-set, unread-set, rest-push, rest-next, rest-most}
+use Rattle.inert.proofs.parts.Counting.{unseen-set, rest-next, rest-most}
 use Rattle.inert.proofs.invariant.Standing.{pair_before, list_signed}
 use Rattle.inert.proofs.signatures.Exact.{place_step}
 use Rattle.inert.proofs.moves.Forward.{SearchInvariant-collect, collected_holds, SearchInvariant-join, joined_here}
-use Rattle.inert.proofs.moves.Forward.{SearchInvariant-enter}
-use Rattle.inert.proofs.moves.Forward.{entered_met, SearchInvariant-next}
+use Rattle.inert.proofs.moves.Forward.{entered_on, entered_met, SearchInvariant-next}
 
 -- The last frame has the outgoing transitions of the current state that are still to be read. These lemmas assume that
 -- the transition at the place k (the index k in the list of all transitions) is the first of them. They describe the
@@ -46,9 +44,6 @@ module _ (laws : Laws) {u : Under} (lts : IsLts u.l) {signatures : List (List (�
 
   pub source : source_of e ≡ slice_index w.stack (here w)
   source = (frame.row.exactly k place_low).1 (omega (arith, frame.first, next), more)
-
-  pub target_low : target_of e < u.l.states
-  target_low = (lts.in_range.each k (0, 0, 0) place_low).target
 
   -- The current state is the state whose outgoing transitions are being read. If the transition e of the current state
   -- is inert, then an inert step leads from the current state to the target of e.
@@ -89,20 +84,15 @@ module _ (laws : Laws) {u : Under} (lts : IsLts u.l) {signatures : List (List (�
 
     followed : (m : Search) (enters : Bool) → HandlesStep u.l.places (Goes (target_of e)) w m enters → Taken m enters
     followed m enters (inl (unseen, (start, end, row, new), went)) =
-        let within : target_of e < length w.stages = omega (arith, walks.sizes.size, target_low) in
+        let within : target_of e < length w.stages =
+        grind (arith, walks.sizes.size, lts.in_range.each k (0, 0, 0) place_low) in
         let x : Frame = record { height = length w.stack; next = start; end = end } in
-        let stage = OnStack (length w.stack) in
-        let after = SearchInvariant-enter walks laws within unseen row (λ _. inert_step inert) in
+        let (on, ahead) = entered_on walks laws within unseen row (λ _. inert_step inert) in
         let met = entered_met walks laws within unseen row some in
         let done = inert_done (with_pushed (target_of e) start end (length w.items) w) (inr (inr met)) in
-        let seen = seen_more w.stages (target_of e) stage (λ e. cc) within unseen in
-        let signs = signs_opened u signatures w.stages (target_of e) stage (λ k e. cc) within in
-        let read = unread-set w.stages (target_of e) stage refl within unseen (remaining u) in
-        let rest = row_left u.visited u.l.places (target_of e) start end row in
-        let push = rest-push u.visited w.frames x in
-        let one = unseen-set w.stages (target_of e) stage refl within unseen in
+        let one = unseen-set w.stages (target_of e) (OnStack (length w.stack)) refl within unseen in
         let same = get_or_append_left w.frames (x ∷ []) no_frame (length w.frames - 1) in
-        rw new (grind (arith, after, done, seen, signs, read, rest, push, one, same, some, length_push w.frames x))
+        rw new (grind (arith, on, ahead, done, one, same, some, length_push w.frames x))
     followed m enters (inr (inl (q, stage, cuts, new, stay))) =
         let was = walks.opened.only (target_of e) q stage in
         rw new (stayed m.roots w.items enters (SearchInvariant-join walks laws cuts was.0 (rw was.1 (inert_step inert)))
@@ -159,8 +149,9 @@ pub record Reads (u : Under) (signatures : List (List (ℕ × ℕ))) (old new : 
   pub forward : (top old.frames).next ≤ k
   pub less : ahead u new + price_between u.visited (top old.frames).next k ≡ ahead u old
 
--- A frame belongs to a state whose outgoing transitions are being read. `Stays` holds if no state was pushed while the
--- search went from `old` to `new`: the stack, the number of frames and the number of unvisited states are the same.
+-- A frame has the outgoing transitions of a state on the stack that are still to be read. `Stays` holds if no state was
+-- pushed while the search went from `old` to `new`: the stack, the number of frames and the number of unvisited states
+-- are the same.
 pub record Stays (old new : Search) : Type 0 where
   pub size : length new.frames ≡ length old.frames
   pub stack : new.stack ≡ old.stack
@@ -192,16 +183,13 @@ module _ {u : Under} {signatures : List (List (ℕ × ℕ))} {first w : Search} 
   -- These lemmas assume that the transition at the place k (the index k in the list of all transitions) is processed
   -- next.
   module _ (laws : Laws) (lts : IsLts u.l) (more : k < (top first.frames).end) where
-    now_more : k < (top w.frames).end
-    now_more = omega (arith, ap (λ y. y.end) top_is, more)
-
     -- A visit is a counted read of a transition. Reading the transition at the place (index) k takes 0 or 1 visits.
     -- This number of visits is at most the number of visits that the search still has to make.
     pub next_ahead : price u.visited k ≤ ahead u w
     next_ahead =
         let here = ap (λ y. y.next) top_is in
         let most = rest-most u.visited w.frames (length w.frames - 1) (omega (arith, now_some))
-        (omega (arith, here, now_more)) in
+        (omega (arith, here, more, ap (λ y. y.end) top_is)) in
         omega (arith, most, ap (price u.visited) here)
 
     module _ (block : ℕ) (is_block : block ≡ slice_index u.blocks (slice_index first.stack (top first.frames).height))
@@ -216,6 +204,7 @@ module _ {u : Under} {signatures : List (List (ℕ × ℕ))} {first w : Search} 
           → Marked u signatures first (record m { frames = set m.frames i x }) k enters
       taken_first m enters takes =
           let at = ap (λ y. y.next) top_is in
+          let now_more : k < (top w.frames).end = omega (arith, ap (λ y. y.end) top_is, more) in
           let from = source laws lts reads.on.walks now_some at now_more in
           let same_block : block ≡ slice_index u.blocks (source_of (place_at u.l.places k)) =
           grind (arith, is_block, top_is, stays.stack, from) in

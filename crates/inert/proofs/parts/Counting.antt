@@ -1,13 +1,13 @@
 -- Lemmas about the number of visits (counted reads of transitions) that a search still has to make. They show how this
 -- number decreases while states are pushed and their transitions are read.
-use Rattle.std.proofs.Common.{rules, ◌≡◌, ◌∙◌, ℕ, ◌+◌, ◌-◌, ◌<◌, ◌≤◌, false, cond, List, [], ◌∷◌, ◌++◌, length, set}
+use Rattle.std.proofs.Common.{rules, ◌≡◌, ◌∙◌, ℕ, ◌+◌, ◌-◌, ◌<◌, ◌≤◌, false, cond, List, length, set}
 use Rattle.std.proofs.Common.{take, map, ap, refl, sym, arith}
 use Rattle.std.specs.List.{sum}
 use Rattle.std.proofs.lemmas.Grind.{common_steps}
 use Rattle.std.proofs.lemmas.Bool.Decides.{nat_tests}
 use Rattle.std.proofs.lemmas.List.{same_lists, get_or-map, length-map, take_all}
 use Rattle.std.proofs.lemmas.List.Elements.{filter_agree}
-use Rattle.std.proofs.lemmas.List.Sums.{length-filter, count_by-le-length, sum-map, sum_by_more, sum_by_push}
+use Rattle.std.proofs.lemmas.List.Sums.{sum-map, sum_by_more}
 use Rattle.std.proofs.lemmas.List.Sums.{sum_by-set}
 use Rattle.lts.specs.Lts.{Triple, source_of, row_of}
 use Rattle.lts.specs.Visited.{price, price_between}
@@ -42,13 +42,6 @@ module _ (old new : List VisitState) (same : (s : ℕ) → is_unvisited (stage_a
     pub unread-same : (places : List Triple) → unread places new ≡ unread places old
     unread-same places = ap length (filter_agree _ _ (λ e. same (source_of e)) places)
 
--- A visit is a counted read of a transition, and a frame has the transitions of a state that are still to be read. If
--- the frame x is added to the list of frames, the number of visits that are needed for the transitions of all frames
--- increases by the number of visits for the transitions of x.
-pub rest-push : (visited : List ℕ) (frames : List Frame) (x : Frame) →
-    rest visited (frames ++ x ∷ []) ≡ rest visited frames + price_between visited x.next x.end
-rest-push visited frames x = sum_by_push (λ y. price_between visited y.next y.end) frames x
-
 -- A visit is a counted read of a transition, and a frame has the transitions of a state that are still to be read.
 -- Suppose that the next transition of the frame at the index i is read. If this transition was visited before, the
 -- number of visits that are needed for the transitions of all frames stays the same. Otherwise, this number decreases
@@ -78,7 +71,3 @@ pub rest-cut : (visited : List ℕ) (frames : List Frame) → 0 < length frames 
 rest-cut visited frames some read =
     let none = ap (price_between visited (top frames).next) (sym read) ∙ price_none visited (top frames).next in
     grind (arith, common_steps, take_all, sum_by_more, none)
-
--- The number of transitions with an unvisited source is at most the number of all transitions.
-pub unread-most : (places : List Triple) (stages : List VisitState) → unread places stages ≤ length places
-unread-most places stages = search (rules, length-filter, count_by-le-length)

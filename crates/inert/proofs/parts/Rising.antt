@@ -1,6 +1,6 @@
 -- Lemmas about lists in which each element is in a given relation to all elements after it (`AllPairs`). The search has
--- two such lists: the roots, which are the first states of the components on the stack, and the frames, which belong to
--- the states whose transitions are being read.
+-- two such lists: the roots, which are the first states of the components on the stack, and the frames, each of which
+-- has the transitions of a state on the stack that are still to be read.
 use Rattle.std.proofs.Common.{ℕ, ◌<◌, ◌≤◌, List, length, take, get_or, arith}
 use Rattle.std.specs.List.{All, AllPairs}
 use Rattle.std.proofs.lemmas.Grind.{elements}

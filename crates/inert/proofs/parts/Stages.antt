@@ -1,14 +1,12 @@
 -- Lemmas about changes of the status of states. The status of a state is unvisited, on the stack, or completed with a
 -- signature ID. Visited states stay visited, and completed states keep their signature IDs.
-use Rattle.std.proofs.Common.{◌≡◌, ℕ, ◌<◌, List, length, slice_index, set, inl, arith}
+use Rattle.std.proofs.Common.{◌≡◌, ℕ, ◌<◌, List, length, slice_index, arith}
 use Rattle.std.specs.List.{All}
-use Rattle.std.proofs.lemmas.Grind.{common_steps}
-use Rattle.std.proofs.lemmas.List.{get_or_past, get_or-set_other}
+use Rattle.std.proofs.lemmas.List.{get_or_past}
 use Rattle.std.proofs.lemmas.List.Elements.{All-from_get_or}
 use Rattle.signatures.specs.Lists.{Grow}
 use Rattle.inert.specs.Search.{VisitState, stage_at, AreOpen, IsCacheable, Unvisited, Completed, KeepsVisited}
 use Rattle.inert.specs.Steps.{Under}
-use Rattle.inert.specs.SearchMoves.{SignsMore}
 
 -- The list `stages` has the status of each state: unvisited, on the stack, or completed. It has an entry for each state
 -- on the stack.
@@ -26,17 +24,6 @@ seen_same stages = record { unseen = λ s is. is; finished = λ s k is. is }
 -- stay visited in the two changes together.
 pub seen_on : {old mid new : List VisitState} → KeepsVisited old mid → KeepsVisited mid new → KeepsVisited old new
 seen_on first then = grind (arith, first, then)
-
--- If the unvisited state t gets another status, all visited states stay visited.
-pub seen_more : (stages : List VisitState) (t : ℕ) (m : VisitState) → ¬ (m ≡ Unvisited) → t < length stages →
-    stage_at stages t ≡ Unvisited → KeepsVisited stages (set stages t m)
-seen_more stages t m seen low was = grind (arith, common_steps, get_or-set_other)
-
--- The condition `SignsMore` says that each newly completed state has the ID of its signature. If the new status m of
--- the state t is not `Completed`, no state is newly completed, so `SignsMore` is satisfied.
-pub signs_opened : (u : Under) (signatures : List (List (ℕ × ℕ))) (stages : List VisitState) (t : ℕ) (m : VisitState)
-    → ((k : ℕ) → ¬ (m ≡ Completed k)) → t < length stages → SignsMore u signatures stages (set stages t m)
-signs_opened u signatures stages t m unless low s k is = inl (grind (arith, common_steps, unless k, low, is))
 
 -- Suppose that all completed states stay completed with the same signature IDs. If the signature with the ID k may be
 -- cached for the state s (`IsCacheable`), it may still be cached for s afterwards, even if more signatures are

@@ -3,16 +3,16 @@
 use Rattle.std.specs.Prelude.{ℕ, ◌-◌, ◌<◌, ◌≤◌, List, length}
 use Rattle.inert.specs.Search.{Search, VisitState, Frame, Root, Item, top, root_at}
 
--- A frame belongs to a state whose transitions are being read, and a root is the first state of a component on the
--- stack. An item is a pair (label ID, block) or a signature ID. Returns the search with the given status of each state,
--- stack, frames, roots, and items.
+-- A frame has the outgoing transitions of a state on the stack that are still to be read. A root is the first state of
+-- a component on the stack. An item is a pair (label ID, block) or a signature ID. Returns the search with the given
+-- status of each state, stack, frames, roots, and items.
 abbrev pub walk_of : List VisitState → List ℕ → List Frame → List Root → List Item → Search
 walk_of stages stack frames roots items =
     record { stages = stages; stack = stack; frames = frames; roots = roots; items = items }
 
--- A frame belongs to a state whose transitions are being read, and a root is the first state of a component on the
--- stack. These are the default values of frames and roots, which are returned for an index outside a list of frames or
--- roots. All fields of these values are 0.
+-- A frame has the outgoing transitions of a state on the stack that are still to be read. A root is the first state of
+-- a component on the stack. These are the default values of frames and roots, which are returned for an index outside a
+-- list of frames or roots. All fields of these values are 0.
 abbrev pub no_frame : Frame
 no_frame = record { height = 0; next = 0; end = 0 }
 

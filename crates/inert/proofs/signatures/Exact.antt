@@ -2,7 +2,7 @@
 -- has collected items, and an item is a pair (label ID, block) or a signature ID. If all outgoing transitions of the
 -- states of this component were read, its items represent exactly the pairs of the signature of each of its states.
 use Rattle.std.proofs.Common.{rules, ◌≡◌, ℕ, ◌+◌, ◌-◌, ◌<◌, ◌≤◌, List, [], ◌∷◌, length, drop, get_or, slice_index, sym}
-use Rattle.std.proofs.Common.{◌∙◌, ap, subst, inl, inr, arith, Contains}
+use Rattle.std.proofs.Common.{◌∙◌, subst, inl, inr, arith, Contains}
 use Rattle.std.proofs.lemmas.Grind.{common_steps}
 use Rattle.std.proofs.lemmas.List.{length-map, get_or-map, get_or-drop, get_or_default, length-drop}
 use Rattle.theory.specs.System.{Step, Along, internal}
@@ -58,10 +58,8 @@ module _ (laws : Laws) {u : Under} (lts : IsLts u.l) {signatures : List (List (�
   -- the transition is not inert, the component has collected its pair (label ID, target block).
   done : (p k : ℕ) → here w ≤ p → p < length w.stack → k < length u.l.places
       → source_of (place_at u.l.places k) ≡ slice_index w.stack p → IsHandled u signatures w p (place_at u.l.places k)
-  done p k h lp lk source = elim (walks.accounted p k lp lk source) [
-    | inr a ↦ a
-    | inl (i, low, is, ahead) ↦ grind (arith, common_steps, none_ahead, last_frame)
-  ]
+  done p k h lp lk source = let left = none_ahead walks read p k in
+      grind (arith, walks.accounted p k lp lk source, left, last_frame walks, h, lk, source)
 
   -- The last component is the component at the top of the stack. Its items are pairs (label ID, block) and signature
   -- IDs, and a signature ID represents all pairs of its signature. Suppose that a path of inert steps leads from a
@@ -75,9 +73,7 @@ module _ (laws : Laws) {u : Under} (lts : IsLts u.l) {signatures : List (List (�
   collects z [] p h lp v t e step is other low =
       let (k, lk, source, label, target) = step_place u.l v t (text_of u.l.labels z.0) step in
       let id : label_of (place_at u.l.places k) ≡ z.0 = search rules in
-      let block : slice_index u.blocks (target_of (place_at u.l.places k)) ≡ z.1 =
-      ap (slice_index u.blocks) target ∙ is in
-      let same : pair_under u.blocks (place_at u.l.places k) ≡ z = λ i. (id i, block i) in
+      let same : pair_under u.blocks (place_at u.l.places k) ≡ z = grind (arith, id, target, is) in
       collected_from p h z (rw same at ((done p k h lp lk (source ∙ sym e)).shown (λ inert. other (cc, cc))))
   collects z (x ∷ us) p h lp v t (first, rest) step is other low =
       let (k, lk, source, label, target) = step_place u.l (slice_index w.stack p) x internal first.0 in
@@ -123,8 +119,8 @@ module _ (laws : Laws) {u : Under} (lts : IsLts u.l) {signatures : List (List (�
         signature = record {
           exactly = λ k b. (
             λ c. sound p h lp (k, b) ((listed.exactly (k, b)).0 c),
-            λ has. (listed.exactly (k, b)).1 (collects (k, b) has.1.2.0 p h lp has.1.0 has.1.1 has.1.2.1 has.1.3
-                has.1.4 has.1.5 has.0),
+            λ (low, (v, t, (us, path), step, is, other)).
+                (listed.exactly (k, b)).1 (collects (k, b) us p h lp v t path step is other low),
           );
           ascending = listed.ascending;
         };

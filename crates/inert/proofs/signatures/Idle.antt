@@ -35,23 +35,17 @@ module _ {u : Under} {signatures : List (List (ℕ × ℕ))} {active : List ℕ}
   -- its signature.
   all_signed : SignsMore u signatures woken.stages done.stages → (s : ℕ) → IsMember active s
       → IsSignature Branching u.l u.blocks s (list_at signatures (slice_index now s))
-  all_signed signs s one = let (k, is) = its s one in rw (cached_at done.stages s k is) (elim (signs s k is) [
-    | inl none ↦ absurd (cc (unvisited woke over s one, none))
-    | inr sign ↦ sign.signature
-  ])
+  all_signed signs s one = grind (arith, its s one, cached_at done.stages s, signs s, unvisited woke over s one)
 
   -- If a state is not active (not processed by the round), its cached signature ID does not change during the search.
   all_still : (s : ℕ) → IsMember active s ⊎ (slice_index now s ≡ slice_index (cached first.stages) s)
-  all_still s = let past = kept_past first.stages s in
-      let after = kept_past done.stages s in
-      let inside = cases_lt s (length first.stages) in
-      grind (arith, inside, woke.others s, over.all s, cached_at, seen, past, after, states, rests.sizes.size)
+  all_still s = let inside = cases_lt s (length first.stages) in
+      grind (arith, inside, woke.others s, over.all s, cached_at, seen, kept_past, states, rests.sizes.size)
 
   -- Each cached signature ID is the ID of an interned signature.
   kept_within : AreIds signatures now
-  kept_within s d h =
-      let (k, is) = over_again.all s (omega (arith, h, length-map done.stages id_of)) in
-      grind (arith, cached_at done.stages s k is, get_or_default now s 0 d h, (rests.signed s k is).within)
+  kept_within s d h = let size = length-map done.stages id_of in
+      grind (arith, over_again.all s, size, cached_at done.stages s, get_or_default now s 0 d h, rests.signed s)
 
   -- The active states are the states that the round processes. These lemmas make two assumptions. Before the search,
   -- the cached signature ID of each active state was written to the list `old`, and the result is the list `put`. After
@@ -74,10 +68,8 @@ module _ {u : Under} {signatures : List (List (ℕ × ℕ))} {active : List ℕ}
 
     -- Each signature ID that is used to split the blocks is the ID of an interned signature.
     all_within : AreIds signatures signature_ids
-    all_within s d h =
-        let at = get_or_default signature_ids s 0 d h in
-        let within = rests.signed s in
-        grind (arith, at, none_still s h, all_shown s, its s, within, cached_at done.stages s, rests.sizes.some)
+    all_within s d h = let at = get_or_default signature_ids s 0 d h in
+        grind (arith, at, none_still s h, all_shown s, its s, rests.signed s, cached_at done.stages s, rests.sizes.some)
 
     pub all_told : SignsMore u signatures woken.stages done.stages
         → ((s : ℕ) → IsMember active s → IsSignature Branching u.l u.blocks s (list_at signatures (slice_index now s)))

@@ -16,11 +16,6 @@ use Rattle.signatures.specs.Lists.{list_at, AreLists, AreIds, Grow, HasOne}
 use Rattle.inert.specs.Search.{AreInternedItems, GivesPair, item_at, Item, Pair, Interned}
 use Rattle.inert.specs.SearchMoves.{AreCollected, IsUnionOfItems}
 
--- An item is a pair (label ID, block) or a signature ID. An empty list of items has no pairs and no signature IDs. So
--- `AreCollected` holds for an empty list of pairs and an empty list of signature IDs.
-pub taken_none : AreCollected [] [] []
-taken_none = grind arith
-
 -- Let the element x be appended to the list xs, and the element y to the list ys. Suppose that two implications hold:
 -- if xs contains x', then ys contains y', and if x equals x', then y equals y'. If the longer list xs contains x', then
 -- the longer list ys contains y'.
@@ -55,24 +50,18 @@ module _ (all : List Item) (n : ℕ) (signature_ids : List ℕ) (pairs : List (�
     own = λ x y. (λ c. Contains-append_left _ _ _ ((taken.own x y).0 c), λ c. (taken.own x y).1 (less xs (λ e. cc) c));
   })
 
--- Sorting a list of IDs and removing duplicates does not change which IDs the list contains.
-pub numbers_have : (xs ys zs : List ℕ) → IsPermutation xs ys → IsFiltered (DiffersFromLast nat_eq) [] ys zs → (k : ℕ) →
-    Contains zs k ↔ Contains xs k
-numbers_have xs ys zs same filtered k =
-    rw (dedup_is nat_eq ys zs filtered) (
-      λ c. Contains-permutation ys xs k (IsPermutation-sym xs ys same) (Contains-from_dedup nat_eq ys k c),
-      λ c. Contains-dedup nat_eq_equiv eqb-true ys k (Contains-permutation xs ys k same c),
-    )
-
--- An item is a pair (label ID, block) or a signature ID. Suppose that the list `ns` has exactly the signature IDs among
--- the items. If the list `signature_ids` contains the same IDs as `ns`, then `signature_ids` also has exactly the
--- signature IDs among the items.
-pub taken_ordered : (items : List Item) (ns signature_ids : List ℕ) (pairs : List (ℕ × ℕ)) → AreCollected items ns pairs
-    → ((k : ℕ) → Contains signature_ids k ↔ Contains ns k) → AreCollected items signature_ids pairs
-taken_ordered items ns signature_ids pairs taken named = record {
-  named = λ k. (λ c. (taken.named k).0 ((named k).0 c), λ c. (named k).1 ((taken.named k).1 c));
+-- An item is a pair (label ID, block) or a signature ID. Suppose that the list xs has exactly the signature IDs among
+-- the items. If xs is sorted and duplicates are removed, the resulting list zs still has exactly these signature IDs.
+pub taken_ordered : (items : List Item) (xs ys zs : List ℕ) (pairs : List (ℕ × ℕ)) → AreCollected items xs pairs
+    → IsPermutation xs ys → IsFiltered (DiffersFromLast nat_eq) [] ys zs → AreCollected items zs pairs
+taken_ordered items xs ys zs pairs taken same filtered = rw (dedup_is nat_eq ys zs filtered) (record {
+  named = λ k. (
+    λ c. (taken.named k).0
+        (Contains-permutation ys xs k (IsPermutation-sym xs ys same) (Contains-from_dedup nat_eq ys k c)),
+    λ c. Contains-dedup nat_eq_equiv eqb-true ys k (Contains-permutation xs ys k same ((taken.named k).1 c)),
+  );
   own = taken.own;
-}
+})
 
 module _ (items : List Item) (signatures : List (List (ℕ × ℕ))) (signature_ids : List ℕ) (pairs : List (ℕ × ℕ))
     (taken : AreCollected items signature_ids pairs) where

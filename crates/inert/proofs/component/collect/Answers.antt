@@ -1,12 +1,13 @@
 use Rattle.std.proofs.Common.{◌≡◌, ◌∙◌, sym, arith, rules}
+use Rattle.std.proofs.lemmas.Grind.{common_steps}
 use Rattle.std.proofs.lemmas.List.{get_or_default, take_all}
 use Rattle.inert.specs.Search.{item_at}
-use Rattle.inert.proofs.signatures.Listing.{taken_none, taken_pair, taken_list}
+use Rattle.inert.proofs.signatures.Listing.{taken_pair, taken_list}
 use Rattle.inert.proofs.component.collect.Goals as goal
 use Rattle.inert.proofs.component.collect.Goals.{in-Pair, in-Interned}
 
 pub loop-item-init : goal.loop-item-init
-loop-item-init c = search (rules, taken_none)
+loop-item-init c = grind (arith, common_steps)
 
 pub loop-item-preserved : goal.loop-item-preserved
 loop-item-preserved c =

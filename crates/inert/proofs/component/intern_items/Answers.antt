@@ -1,5 +1,5 @@
 use Rattle.inert.specs.SearchMoves.{AreCollected}
-use Rattle.inert.proofs.signatures.Listing.{numbers_have, taken_ordered, numbers_there, listed}
+use Rattle.inert.proofs.signatures.Listing.{taken_ordered, numbers_there, listed}
 use Rattle.inert.proofs.component.intern_items.Goals as goal
 use Rattle.inert.proofs.component.intern_items.Goals.{After-deref}
 
@@ -7,8 +7,8 @@ use Rattle.inert.proofs.component.intern_items.Goals.{After-deref}
 -- signature ID. The list `pairs` has exactly the pairs among the items. The list `signature_ids` was sorted, and
 -- duplicates were removed. So it still has exactly the signature IDs among the items.
 taken : (c : goal.After-deref) → AreCollected c.args.items.now c.deref.result.now c.collect.new.pairs.items
-taken c = rw (c.deref.ensures.value) (taken_ordered _ _ _ _ c.in_ok-collect.ensures
-    (numbers_have _ _ _ c.sort_unstable.ensures.permutation c.dedup.ensures.filtered))
+taken c = rw (c.deref.ensures.value) (taken_ordered _ _ _ _ _ c.in_ok-collect.ensures
+    c.sort_unstable.ensures.permutation c.dedup.ensures.filtered)
 
 pub join-requires : goal.join-requires
 join-requires c = numbers_there _ _ _ _ (taken ((goal.at.join-requires c).After-deref)) c.requires

@@ -1,9 +1,8 @@
 use Rattle.std.proofs.Common.{rules, ◌≡◌, ◌∙◌, ℕ, ◌-◌, ◌<◌, ◌≤◌, List, length, slice_index, sym, inl, inr, arith}
 use Rattle.std.proofs.lemmas.Bool.{cases_lt, false≢true}
 use Rattle.std.proofs.lemmas.Grind.{common_steps}
-use Rattle.inert.specs.Steps.{remaining}
 use Rattle.inert.specs.Search.{VisitState, stage_at, Completed, KeepsVisited}
-use Rattle.inert.proofs.parts.Counting.{unread-most}
+use Rattle.std.proofs.lemmas.List.Sums.{length-filter, count_by-le-length}
 use Rattle.inert.proofs.parts.Stages.{seen_same, seen_on}
 use Rattle.signatures.proofs.CallerLemmas.{Grow-same, Grow-twice}
 use Rattle.inert.proofs.invariant.Keeping.{signs_on}
@@ -29,8 +28,7 @@ module _ (g : Over) (c : After-is_unvisited g) where
   ]
 
 pub loop-i-init : goal.loop-i-init
-loop-i-init g c = let most = unread-most (remaining c.args.lens.now) c.args.search.now.stages in
-    search (rules, most, c.requires.rests, seen_same, Grow-same)
+loop-i-init g c = search (rules, length-filter, count_by-le-length, c.requires.rests, seen_same, Grow-same)
 
 pub loop-i-preserved-then-not-is_unvisited : goal.loop-i-preserved-then-not-is_unvisited
 loop-i-preserved-then-not-is_unvisited g c = let d

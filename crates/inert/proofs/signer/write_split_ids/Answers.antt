@@ -1,6 +1,5 @@
 use borrow.Author.Count.{below_more}
-use Rattle.std.proofs.Common.{◌≢◌, ◌∙◌, ℕ, ◌<◌, length, slice_index, sym, inl, inr, arith}
-use Rattle.std.proofs.Math.Logic.{⊎_map}
+use Rattle.std.proofs.Common.{◌≢◌, ◌∙◌, ℕ, ◌<◌, length, slice_index, arith}
 use Rattle.std.proofs.lemmas.Bool.{cases_eq}
 use Rattle.std.proofs.lemmas.Grind.{common_steps}
 use Rattle.std.proofs.lemmas.List.{get_or-set_same, get_or-set_other, length-set}
@@ -25,8 +24,5 @@ loop-i-preserved c = let active = c.args.active.now in let inv = c.loop-i.invari
           ∙ inv.ahead j (omega arith) l;
       have = below_more _ _ (λ j h. rw (old (slice_index active j) (λ e. omega (arith, e, up j c.loop-i.i h more)))
           (inv.have j h)) (rw (here, ← inv.ahead c.loop-i.i (omega arith) more) shown);
-      others = λ t. elim (cases_eq t s) [
-        | inl e ↦ inl (c.loop-i.i, more, sym e)
-        | inr other ↦ ⊎_map (λ m. m) (λ is. old t other ∙ is) (inv.others t)
-      ];
+      others = λ t. grind (arith, cases_eq t s, old t, inv.others t, more);
     }

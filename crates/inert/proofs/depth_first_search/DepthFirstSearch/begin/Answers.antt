@@ -1,4 +1,4 @@
-use Rattle.std.proofs.Common.{rules, ◌≡◌, ◌∙◌, [], set, ap, sym, arith}
+use Rattle.std.proofs.Common.{rules, ◌≡◌, ◌∙◌, [], set, sym, arith}
 use Rattle.std.proofs.lemmas.Bool.{false≢true}
 use Rattle.std.proofs.lemmas.Grind.{common_steps}
 use Rattle.lts.proofs.CallerLemmas.{price_none, price_first, price_one_more}
@@ -9,17 +9,15 @@ use Rattle.inert.proofs.parts.Tops.{walk_of}
 use Rattle.inert.specs.SearchMoves.{IsUnionOfItems}
 use Rattle.inert.proofs.invariant.Resting.{within}
 use Rattle.signatures.proofs.CallerLemmas.{Grow-same}
-use Rattle.inert.proofs.moves.Beginning.{collecting, begins, takes_framed, takes_bare, begun_ends}
+use Rattle.inert.proofs.moves.Beginning.{begins, takes_framed, takes_bare, begun_ends}
 use Rattle.inert.proofs.depth_first_search.DepthFirstSearch.begin.Given.{Over}
 use Rattle.inert.proofs.depth_first_search.DepthFirstSearch.begin.Goals as goal
 use Rattle.inert.proofs.depth_first_search.DepthFirstSearch.begin.Goals.{After-step-step}
 
 pub loop-k-init : goal.loop-k-init
-loop-k-init g c = let rests = c.requires.rests in record {
-  same = rests.empty ∙ ap (λ w. collecting c.args.self.now.stages w.items) (sym rests.empty);
-  begun = begins c.invariants.ensures.laws rests c.requires.state.0 c.requires.state.1 c.row-start.ensures;
-  cost = omega (arith, price_none c.args.lens.now.visited c.row-start.result.0);
-}
+loop-k-init g c = let rests = c.requires.rests in
+    let begun = begins c.invariants.ensures.laws rests c.requires.state.0 c.requires.state.1 c.row-start.ensures in
+    grind (arith, common_steps, rests.empty, begun, price_none c.args.lens.now.visited c.row-start.result.0)
 
 pub step-step-requires-clause-room : goal.step-step-requires-clause-room
 step-step-requires-clause-room g c = let i = c.loop-k.invariant in
