@@ -2,7 +2,7 @@
 -- a state, the set of marked states changes. The set of transitions that are still to be read changes too.
 use Rattle.std.proofs.lemmas.List.{get_or_default, get_or-set_same, get_or-set_other, length-replicate, get_or_past}
 use Rattle.std.proofs.lemmas.List.{length_push, length-set, append-nil}
-use Rattle.std.proofs.Common.{◌≢◌, sum_by, ap, ◌≡◌, ◌⊎◌, ◌↔◌, ℕ, ◌+◌, ◌<◌, ◌≤◌, Bool, true, false, cond, not, ◌&&◌, eqb}
+use Rattle.std.proofs.Common.{◌≢◌, sum_by, ap, ◌≡◌, ◌⊎◌, ℕ, ◌+◌, ◌<◌, ◌≤◌, Bool, true, false, cond, not, ◌&&◌, eqb}
 use Rattle.std.proofs.Common.{ltb, List, [], ◌∷◌, ◌++◌, length, get_or, set, replicate, Contains, inl, inr, arith}
 use Rattle.std.proofs.Common.{rules}
 use Rattle.std.proofs.lemmas.Grind.{common_steps}
@@ -13,12 +13,12 @@ use Rattle.std.proofs.lemmas.List.Sums.{sum_by_push, sum_by-set}
 use Rattle.theory.specs.System.{Step, Reachable}
 use Rattle.theory.proofs.CallerLemmas.{contains_here, contains_there, contains_cases, contains_none}
 use Rattle.lts.specs.Lts.{Triple, row_of, Grouped, system_of}
-use Rattle.lts.specs.Meter.{Counts, HasRoomFor, Costs}
+use Rattle.lts.specs.Meter.{Counts, Costs}
 use Rattle.quotient_core.specs.Numbers.{IsMarked}
 use Rattle.quotient_core.specs.Search.{MarksState, Searches, ReadsOnce, is_ahead, states_ahead, places_ahead}
 use Rattle.quotient_core.specs.Triples.{rows_of}
 use Rattle.quotient_core.specs.declared.search.Search.{Search}
-use Rattle.quotient_core.proofs.Visits.{visits_then, room_after, rows_part, rows_few}
+use Rattle.quotient_core.proofs.Visits.{visits_then, rows_part, rows_few}
 
 -- `Follows` holds if the following is true for each marked state u that is less than `next` and is not in the queue
 -- `waiting`: each state v to which R leads from u, with any label a, is marked. The search scans the states in the
@@ -36,13 +36,12 @@ marked_below states marked s size m = search (rules, both_ways, get_or_past)
 pub ReadsOnce-first : (g : Grouped) (at : Counts) → g.first < g.states → Reachable (system_of g) g.first →
     ReadsOnce g (set (replicate g.states false) g.first true) 0 [] at at
 ReadsOnce-first g at below reached = record {
-  search = search (rules, length-replicate, both_ways, none_marked, get_or-set_other, contains_none);
+  search =
+      let none : (s : ℕ) → get_or (replicate g.states false) s false ≡ false = λ s. grind (arith, common_steps) in
+      search (rules, length-replicate, both_ways, none, get_or-set_other, contains_none);
   few = omega (arith, rows_few (is_ahead 0 (set (replicate g.states false) g.first true)) g.places);
   visits = search rules;
 }
-  where
-    none_marked : (n s : ℕ) → get_or (replicate n false) s false ≡ false
-    none_marked n s = grind (arith, common_steps)
 
 -- The search scans the states in the order of their numbers. The following lemmas are about the step in which the
 -- search marks a state t. If t was not marked before, and the scan has already passed t, then the search puts t into
@@ -68,24 +67,13 @@ module _ {t next : ℕ} {old new : Search} (marks : MarksState t next old new) (
   waits_cases waiting u c = let parts = Contains-append_cases waiting (cond waits (t ∷ []) []) u c in
       grind (arith, nat_tests, parts, contains_cases t [] u, contains_none u)
 
-  waits_self : (waiting : List ℕ) → t < next → get_or old.marked.items t false ≡ false →
-      Contains (waiting ++ cond waits (t ∷ []) []) t
-  waits_self waiting passed unmarked = let e : waits ≡ true = grind (arith, nat_tests) in
-      Contains-append_right waiting (cond waits (t ∷ []) []) t (rw e (contains_here t []))
-
   follows_mark : (R : ℕ → List ℕ → ℕ → Type 0) (waiting : List ℕ) → Follows R old.marked.items next waiting →
       Follows R new.marked.items next (waiting ++ cond waits (t ∷ []) [])
   follows_mark R waiting on u v a low m r =
       let same = Contains-append_left waiting (cond waits (t ∷ []) []) u in
-      grind (
-        arith,
-        mark_at u,
-        cases_Bool (get_or old.marked.items t false),
-        on u v a,
-        waits_self waiting,
-        same,
-        mark_at v,
-      )
+      let put = contains_here t [] in
+      let added = Contains-append_right waiting (cond waits (t ∷ []) []) t in
+      grind (arith, nat_tests, mark_at u, cases_Bool waits, on u v a, put, added, same, mark_at v)
 
   -- Suppose that the state s is at the front of the queue, and that the search marks the target of a step of s. Then
   -- the invariant of the search (`Searches`) still holds.
@@ -97,14 +85,11 @@ module _ {t next : ℕ} {old new : Search} (marks : MarksState t next old new) (
       let on = follows_mark (Step (system_of g)) waiting held.followed in
       let size : length new.marked.items
       ≡ g.states = rw marks.marked (omega (arith, length-set {A = Bool}, held.size)) in
-      rw marks.queue (search (rules, held, size, way, each waiting held.each_waiting, on, only, MarksState-keeps))
-    where
-      each : (waiting : List ℕ) → ((u : ℕ) → Contains waiting u → IsMarked old.marked.items u) → (u : ℕ) →
-          Contains (waiting ++ cond waits (t ∷ []) []) u → IsMarked new.marked.items u
-      each waiting had u c = grind (arith, had u, waits_cases waiting u c, MarksState-keeps u, MarksState-self)
-
-      only : (u : ℕ) → IsMarked new.marked.items u → IsMarked old.marked.items u ⊎ (t ≡ u)
-      only u m = grind (arith, mark_at u)
+      let each : (u : ℕ) → Contains (waiting ++ cond waits (t ∷ []) []) u → IsMarked new.marked.items u =
+      λ u c. grind (arith, held.each_waiting u, waits_cases waiting u c, MarksState-keeps u, MarksState-self) in
+      let only : (u : ℕ) → IsMarked new.marked.items u → IsMarked old.marked.items u ⊎ (t ≡ u) =
+      λ u m. grind (arith, mark_at u) in
+      rw marks.queue (search (rules, held, size, way, each, on, only, MarksState-keeps))
 
   -- The place of a transition is its index in the list of all transitions. Suppose that the targets of the transitions
   -- at the places from `start` to k - 1 are marked. If the search marks the target of the transition at the place k,
@@ -149,32 +134,10 @@ Searches-read g s next marked queue read held =
     λ u v a l m r. grind (arith, held.followed u v a, contains_cases s queue u, read a v) in
     search (rules, held, contains_there, on)
 
--- The search scans the states in the order of their numbers. When this scan has passed all states, and the queue is
--- empty, a state is marked if and only if it is reachable.
-pub Searches-end : (g : Grouped) (marked : List Bool) (waiting : List ℕ) → length waiting ≡ 0 →
-    (IsMarked marked g.first → ((s : ℕ) (a : List ℕ) (t : ℕ) → IsMarked marked s → Step (system_of g) s a t →
-    IsMarked marked t) → (s : ℕ) → Reachable (system_of g) s → IsMarked marked s) →
-    Searches g marked g.states waiting → (s : ℕ) → IsMarked marked s ↔ Reachable (system_of g) s
-Searches-end g marked waiting none kept held s = (
-  held.only_reachable s,
-  kept held.first (λ u a v m step. elim (held.followed u v a (marked_below g.states marked u held.size m) m step)
-      [ inl c ↦ absurd (omega (arith, none, c.1)) | inr h ↦ h ]) s,
-)
-
 -- The following lemmas assume that the search has read each transition at most once, and that the meter has counted
 -- these reads (`ReadsOnce`).
 module _ {g : Grouped} {marked : List Bool} {next : ℕ} {waiting : List ℕ} {old mid : Counts}
     (reads : ReadsOnce g marked next waiting old mid) where
-  -- Suppose that `row` is at most the number of transitions that the search may still read. If `row` further reads are
-  -- counted, then the counter does not overflow, and it has counted at most one read for each transition.
-  pub room_for_row : {row : ℕ} → HasRoomFor old 0 (length g.places) →
-      row ≤ places_ahead g.places next marked waiting → HasRoomFor mid 0 row
-  room_for_row room within = room_after room reads.visits (omega (arith, reads.few))
-
-  pub ReadsOnce-within : {row : ℕ} {new : Counts} → Costs mid new 0 0 row →
-      row ≤ places_ahead g.places next marked waiting → Costs old new 0 0 (length g.places)
-  ReadsOnce-within costs within = visits_then reads.visits costs (omega (arith, reads.few))
-
   pub ReadsOnce-row : {row past : ℕ} {more : List Bool} {left : List ℕ} {new : Counts} → Costs mid new 0 0 row →
       places_ahead g.places next marked waiting ≡ places_ahead g.places past more left + row →
       Searches g more past left → ReadsOnce g more past left old new

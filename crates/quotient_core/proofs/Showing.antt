@@ -5,8 +5,18 @@
 -- transitions of a class.
 use Rattle.std.proofs.Common.{◌-◌, get_or, ◌≡◌, ◌≢◌, ◌⊎◌, ℕ, ◌+◌, ◌<◌, ◌≤◌, Bool, false, not, ◌&&◌, IsTrue, eqb, ltb}
 use Rattle.std.proofs.Common.{List, [], ◌++◌, length, slice_index, Contains, IsPermutation, ap, subst, inl, inr, arith}
-use Rattle.std.proofs.Common.{map, rules}
-use Rattle.std.specs.List.{AllPairs}
+use Rattle.std.proofs.Common.{map, rules, nat_eq, ◌∷◌}
+use Rattle.std.specs.List.{AllPairs, dedup}
+use Rattle.std.proofs.lemmas.Cmp.{on_total, then_total, nat_cmp_total}
+use Rattle.std.proofs.lemmas.List.Filters.{dedup_is}
+use Rattle.std.proofs.lemmas.List.Kept.{IsStrictlySortedBy-dedup, Contains-dedup, Contains-from_dedup}
+use Rattle.std.proofs.lemmas.List.Sorted.{Contains-permutation, IsPermutation-sym}
+use Rattle.std.proofs.lemmas.Map.Keys.{sorted_tail}
+use Rattle.std.proofs.lemmas.Map.Views.{All-after_first}
+use Rattle.std.specs.Cmp.{IsTotalOrder}
+use Rattle.std.specs.List.Sorted.{IsSorted, IsPermutation, IsStrictlySortedBy}
+use Rattle.std.specs.declared.cmp.Ordering.{Ordering}
+use Rattle.std.specs.Ordering.{nat_cmp, ordering_then}
 use Rattle.std.specs.List.Retain.{IsFiltered, DiffersFromLast}
 use Rattle.std.proofs.lemmas.Bool.Decides.{nat_tests}
 use Rattle.std.proofs.lemmas.List.{length-append, length-map}
@@ -20,11 +30,34 @@ use Rattle.quotient_core.specs.Triples.{Numbered, number_of, shown_by, is_reache
 use Rattle.quotient_core.specs.Triples.{turn_of, LeavesNothingOut, HasShown, between_numbers, is_left_out}
 use Rattle.std.proofs.lemmas.Grind.{elements}
 use Rattle.quotient_core.proofs.Reaching.{marked_below}
-use Rattle.quotient_core.proofs.Repeats.{triple_eq, tidied_exactly}
 use Rattle.lts.proofs.CallerLemmas.{contains_mapped, mapped_contains, contains_passing, passing_contains}
 use Rattle.std.proofs.lemmas.Bool.{not-true, not_from_false}
 use Rattle.std.proofs.lemmas.List.Sums.{length-filter, count_by-le-length}
 use Rattle.quotient_core.proofs.Visits.{visits_then, room_after, Parts, rows_part, rows_few}
+
+-- `triple_cmp` compares two triples: first by source, then by label, then by target.
+abbrev triple_cmp : Triple → Triple → Ordering
+triple_cmp x y = ordering_then (ordering_then (nat_cmp x.0 y.0) (nat_cmp x.1 y.1)) (nat_cmp x.2 y.2)
+
+abbrev triple_eq : Triple → Triple → Bool
+triple_eq x y = (nat_eq x.0 y.0 && nat_eq x.1 y.1) && nat_eq x.2 y.2
+
+triple_total : IsTotalOrder triple_cmp
+triple_total = then_total (then_total (on_total (λ t. t.0) nat_cmp_total) (on_total (λ t. t.1) nat_cmp_total))
+    (on_total (λ t. t.2) nat_cmp_total)
+
+-- If a list is in strictly ascending order, its elements are pairwise different.
+rising_differ : {X : Type 0} {c : X → X → Ordering} (o : IsTotalOrder c) (xs : List X) → IsStrictlySortedBy c xs →
+    AllPairs (λ x y. x ≢ y) xs
+rising_differ o [] h = λ i j d low high. absurd (omega (arith, high))
+rising_differ {c = c} o (x ∷ xs) h = search (rules, All-after_first, rising_differ o xs (sorted_tail c x xs h))
+
+-- Suppose that the list ys is sorted, and that zs results from ys by removing each element that is equal to the element
+-- before it. Then the elements of zs are pairwise different.
+pub tidied_once : (ys zs : List Triple) → IsFiltered (DiffersFromLast triple_eq) [] ys zs → IsSorted triple_cmp ys →
+    AllPairs (λ x y. x ≢ y) zs
+tidied_once ys zs filtered sorted = rw (dedup_is triple_eq ys zs filtered) (rising_differ triple_total
+    (dedup triple_eq ys) (IsStrictlySortedBy-dedup triple_total (λ x y. search rules) ys sorted))
 
 -- `ShownPlace` holds if the quotient transition x (a transition between quotient states) comes from the transition
 -- `place`, which is one of the transitions of the state s. The quotient must not leave out x.
@@ -103,9 +136,12 @@ module _ {rows : Numbered} where
       IsPermutation list sorted → IsFiltered (DiffersFromLast triple_eq) [] sorted tidy → length tidy ≤ length list →
       HasShown rows p tidy
   shown_tidy {list = list} {sorted = sorted} {tidy = tidy} h same filtered short = record {
-    exactly = λ x.
-        let tidied = tidied_exactly sorted tidy filtered list same x in
-        (λ c. (h.exactly x).0 (tidied.0 c), λ f. tidied.1 ((h.exactly x).1 f));
+    exactly = λ x. rw (dedup_is triple_eq sorted tidy filtered) (
+      λ c. (h.exactly x).0 (Contains-permutation sorted list x (IsPermutation-sym list sorted same)
+          (Contains-from_dedup triple_eq sorted x c)),
+      λ f. Contains-dedup (search rules) (λ x y e. search rules) sorted x
+          (Contains-permutation list sorted x same ((h.exactly x).1 f)),
+    );
     few = omega (arith, short, h.few);
   }
 
@@ -205,15 +241,12 @@ module _ {rows : Numbered} {n : ℕ} {members : List ℕ} {k : ℕ} {class : Lis
     -- Suppose that `next` is not reachable, so that its transitions are not read. Then the invariant `IsReadTo` holds
     -- for the first k + 1 states of the block, with the same list `class`.
     pub read_over : is_reached rows next ≡ false → IsReadTo rows n members (k + 1) class old mid
-    read_over out = let same : (s : ℕ) → read k s ≡ read (k + 1) s = λ s. grind (arith, nat_tests, there s) in
-        record {
-          below = h.below;
-          numbered = h.numbered;
-          are = h.are;
-          shown = shown_same same h.shown;
-          visits = subst (λ (p : ℕ → Bool). Costs old mid 0 0 (length (rows_of p rows.l.places))) (λ i s. same s i)
-              h.visits;
-        }
+    read_over out =
+        let same : (s : ℕ) → read k s ≡ read (k + 1) s = λ s. grind (arith, nat_tests, there s) in
+        let shown : HasShown rows (read (k + 1)) class = shown_same same h.shown in
+        let visits : let own = rows_of (read (k + 1)) rows.l.places in Costs old mid 0 0 (length own) =
+        subst (λ (p : ℕ → Bool). Costs old mid 0 0 (length (rows_of p rows.l.places))) (λ i s. same s i) h.visits in
+        search (rules, h, shown, visits)
 
     module _ (way : IsTrue (is_reached rows next)) where
       next_member : IsTrue (is_member rows n next)
@@ -241,13 +274,11 @@ module _ {rows : Numbered} {n : ℕ} {members : List ℕ} {k : ℕ} {class : Lis
           shown_next = rw put (shown_with next_parts h.shown (shown_row next))
 
           pub read_next : IsReadTo rows n members (k + 1) more old new
-          read_next = record {
-            below = h.below;
-            numbered = h.numbered;
-            are = h.are;
-            shown = shown_next;
-            visits = visits_then h.visits row (omega (arith, rows_part _ _ _ next_parts rows.l.places));
-          }
+          read_next =
+              let few = rows_part _ _ _ next_parts rows.l.places in
+              let visits : let own = rows_of (read (k + 1)) rows.l.places in Costs old new 0 0 (length own) =
+              visits_then h.visits row (omega (arith, few)) in
+              search (rules, h, shown_next, visits)
 
           -- The quotient leaves out inert transitions. If no transition of the state `next` is left out, then the
           -- quotient transitions (transitions between quotient states) of the members that have been read, including

@@ -1,6 +1,6 @@
 use Rattle.lts.specs.Lts.{source_of, label_of, target_of, place_at, system_of}
 use Rattle.std.proofs.lemmas.List.{get_or_default}
-use Rattle.std.proofs.Common.{◌≡◌, ap, ◌∙◌, ◌-◌, ◌<◌, length, refl, sym, subst, arith, rules}
+use Rattle.std.proofs.Common.{◌≡◌, ap, ◌∙◌, ◌<◌, length, refl, sym, subst, arith, rules}
 use Rattle.theory.proofs.CallerLemmas.{contains_here}
 use Rattle.std.proofs.lemmas.List.Elements.{Contains-get_or}
 use Rattle.theory.specs.System.{Reachable}
