@@ -14,8 +14,7 @@ use Rattle.theory.specs.Bisimulation.{Bisimilar}
 use Rattle.theory.specs.declared.relation.Relation.{Relation}
 use Rattle.theory.specs.Blocks.{EachTwo}
 use Rattle.theory.specs.Quotient.{HowMany, Leader, IsLeader, Number}
-use Rattle.quotient_core.specs.Numbers.{IsMarked, IsNumbering, begins_class, TakesState}
-use Rattle.quotient_core.specs.declared.numbering.Numbering.{Numbering}
+use Rattle.quotient_core.specs.Numbers.{begins_class, TakesState}
 use Rattle.quotient_core.specs.declared.numbering.Numbers.{Numbers}
 use Rattle.quotient_core.specs.declared.numbering.TheConstants.{NONE}
 use Rattle.theory.proofs.CallerLemmas.{is_leader_itself}
@@ -56,19 +55,11 @@ module _ {b : ℕ} {reached : Bool} {old new : Numbers} (takes : TakesState b re
 
   -- Suppose that a state has just been given its class number (the quotient state that represents it). Each class in
   -- the list of classes either was in this list before, or is the class of this state.
-  class_at : (i : ℕ) → i < length new.classes.items → ((i < length old.classes.items)
+  pub class_at : (i : ℕ) → i < length new.classes.items → ((i < length old.classes.items)
       × (slice_index new.classes.items i ≡ slice_index old.classes.items i))
       ⊎ ((begins_class b reached old ≡ true) × (i ≡ length old.classes.items) × (slice_index new.classes.items i ≡ b))
   class_at i l =
       grind (arith, TakesState-classes, at_push old.classes.items b i, length_push old.classes.items b)
-
-  -- Suppose that the block ID b and the block IDs of all classes are less than the number of blocks. When a state of
-  -- the block b has been given its class number (the quotient state that represents it), the block IDs of all classes
-  -- are still less than the number of blocks.
-  pub TakesState-below : (blocks : ℕ) → b < blocks → ((i : ℕ) → i < length old.classes.items →
-      slice_index old.classes.items i < blocks) → (i : ℕ) → i < length new.classes.items →
-      slice_index new.classes.items i < blocks
-  TakesState-below blocks low each i l = grind (arith, class_at i l, each i, low)
 
 -- `Other` holds if the state m is the leader of its class, which is the state that represents this class, if m is less
 -- than s, and if m is not the first state.
@@ -81,7 +72,6 @@ Other rel A s m = IsLeader rel A m × (m < s) × (m ≢ A.first)
 pub record Laws (rel : Relation) (A : System) (block : ℕ → ℕ) : Type 0 where
   pub same : EachTwo A (λ s t. (block s ≡ block t) ↔ Bisimilar rel A s A t)
   pub system : IsSystem A
-  pub first_reached : Reachable A A.first
   pub below : (s : ℕ) → Reachable A s → s < A.states
   pub number : (s : ℕ) → Reachable A s → (n : ℕ) × Number rel A s n
   pub classes : (s t m n : ℕ) → Reachable A s → Reachable A t → Number rel A s m → Number rel A t n →
@@ -149,7 +139,7 @@ module _ (rel : Relation) (A : System) (block : ℕ → ℕ) (laws : Laws rel A 
       -- The state s is the leader of its class, which is the state that represents this class.
       leads : Leader rel A s s
       leads = inr (
-        λ b. apart (sym ((share s A.first begun.0 laws.first_reached).1 b)),
+        λ b. apart (sym ((share s A.first begun.0 ([], refl)).1 b)),
         (
           (begun.0, (share s s begun.0 begun.0).0 refl),
           λ k fellow. elim (cases_lt k s) [
@@ -271,9 +261,9 @@ module _ (rel : Relation) (A : System) (block : ℕ → ℕ) (laws : Laws rel A 
     numbered = λ t l some. elim (at t l) [
       | inl (e, is) ↦ rw is (
         omega (arith, ap length classes),
-        λ u way to. number_shared A.first u 0 laws.first_reached way (sym (to ∙ e)) (
+        λ u way to. number_shared A.first u 0 ([], refl) way (sym (to ∙ e)) (
           A.first,
-          inl ((share A.first A.first laws.first_reached laws.first_reached).0 refl, refl),
+          inl ((share A.first A.first ([], refl) ([], refl)).0 refl, refl),
           inl (refl, refl),
         ),
       )
@@ -292,31 +282,3 @@ module _ (rel : Relation) (A : System) (block : ℕ → ℕ) (laws : Laws rel A 
           let put = at_put (replicate count NONE) (block A.first) (block t) 0 true
           (omega (arith, room, length-replicate {A = ℕ})) in
           rw by_block (grind (arith, put, blank, cases_eq (block t) (block A.first)))
-
--- Suppose that the invariant of the loop (`Taken`) holds after all states have been given their class numbers. Then the
--- class number of each reachable state is the quotient state that represents it.
-pub Taken-end : (rel : Relation) (A : System) (made : Numbering) (n : Numbers) →
-    Laws rel A (slice_index made.blocks.block_ids) →
-    length made.blocks.block_ids ≡ A.states → length made.reached.items ≡ A.states →
-    ((i : ℕ) → i < length made.classes.items → slice_index made.classes.items i < made.blocks.count) →
-    ((s : ℕ) → IsMarked made.reached.items s ↔ Reachable A s) →
-    Taken rel A (slice_index made.blocks.block_ids) A.states
-    (record n { numbers = made.numbers; classes = made.classes }) →
-    IsNumbering rel A made
-Taken-end rel A made n laws blocks_long reached_long classes_below reached h =
-    let seen = λ (s : ℕ) (way : Reachable A s). h.seen s (laws.below s way) way in
-    let numbered = λ (s : ℕ) (way : Reachable A s). h.numbered s (laws.below s way) (seen s way).1 in
-    record {
-      fits = record {
-        blocks_long = blocks_long;
-        reached_long = reached_long;
-        numbers_long = h.numbers_long;
-        classes_below = classes_below;
-        below = λ s m. let way = (reached s).0 m in rw (seen s way).0 (numbered s way).0;
-        class = λ s i m. let way = (reached s).0 m in rw (seen s way).0 (h.classes s i (laws.below s way));
-      };
-      reached = reached;
-      number = λ s way. rw (seen s way).0 ((numbered s way).1 s way refl);
-      counted = rw h.counted.2 (laws.all h.counted.0 h.counted.1);
-      few = h.fewer laws.system.first;
-    }
