@@ -19,8 +19,6 @@ is g c = let r = c.args.r in
       numbering = c.requires.numbering;
       drops = search rules;
       lts = c.invariants.ensures;
-      reached_first = c.steps_keep_reachable.ensures.first (system_of l);
-      reached_on = c.steps_keep_reachable.ensures.step (system_of l);
       one_number = λ s m n. c.each_state_has_a_number.ensures.one_number r (system_of l) s m n sys;
       classes = λ s t m n. c.numbers_are_classes.ensures r (system_of l) s t m n sys;
       shows_all = λ s t a u. c.states_without_inert_steps_show_all.ensures r (system_of l) s t a u sys;
