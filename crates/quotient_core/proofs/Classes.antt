@@ -13,7 +13,7 @@ use Rattle.theory.specs.System.{System, IsSystem, Reachable}
 use Rattle.theory.specs.Bisimulation.{Bisimilar}
 use Rattle.theory.specs.declared.relation.Relation.{Relation}
 use Rattle.theory.specs.Blocks.{EachTwo}
-use Rattle.theory.specs.Quotient.{HowMany, Leader, IsLeader, Number}
+use Rattle.theory.specs.Quotient.{HowMany, Fellow, Leader, IsLeader, Number}
 use Rattle.quotient_core.specs.Numbers.{begins_class, TakesState}
 use Rattle.quotient_core.specs.declared.numbering.Numbers.{Numbers}
 use Rattle.quotient_core.specs.declared.numbering.TheConstants.{NONE}
@@ -138,17 +138,14 @@ module _ (rel : Relation) (A : System) (block : ℕ → ℕ) (laws : Laws rel A 
 
       -- The state s is the leader of its class, which is the state that represents this class.
       leads : Leader rel A s s
-      leads = inr (
-        λ b. apart (sym ((share s A.first begun.0 ([], refl)).1 b)),
-        (
-          (begun.0, (share s s begun.0 begun.0).0 refl),
-          λ k fellow. elim (cases_lt k s) [
-            | inl l ↦ absurd ((h.seen k l fellow.0).1 (ap (slice_index old.by_block.items)
-                (sym ((share s k begun.0 fellow.0).1 fellow.1)) ∙ begun.1))
-            | inr l ↦ l
-          ],
-        ),
-      )
+      leads =
+          let least = λ (k : ℕ) (fellow : Fellow rel A s k).
+          let same = (share s k begun.0 fellow.0).1 fellow.1 in
+          let seen = λ (l : k < s). (h.seen k l fellow.0).1 in
+          let low : s ≤ k = grind (arith, cases_lt k s, seen, ap (slice_index old.by_block.items) same, begun.1) in
+          low in
+          let own = (share s s begun.0 begun.0).0 refl in
+          inr (λ b. apart (sym ((share s A.first begun.0 ([], refl)).1 b)), ((begun.0, own), least))
 
       number : Number rel A s count
       number = (s, leads, inr (other, h.counted.0, h.counted.1, h.counted.2))
@@ -182,25 +179,11 @@ module _ (rel : Relation) (A : System) (block : ℕ → ℕ) (laws : Laws rel A 
     -- before s. Then the class number of t is the class number of its block.
     seen : (t : ℕ) → t < s + 1 → Reachable A t →
         (slice_index new.numbers.items t ≡ number_at block new t) × (number_at block new t ≢ NONE)
-    seen t l path = rw takes.numbers (elim (at_push old.numbers.items (number_at block new s) t
-        (omega (arith, l, h.numbers_long))) [
-          | inl (less, is) ↦
-              let had = h.seen t (omega (arith, less, h.numbers_long)) path in
-              elim (at t) [
-                | inl (same, _) ↦ (is ∙ had.0 ∙ sym same, λ none. had.1 (sym same ∙ none))
-                | inr (_, _, was, _) ↦ absurd (had.1 was)
-              ]
-          | inr (end, is) ↦
-              let e : t ≡ s = end ∙ h.numbers_long in (
-                is ∙ ap (number_at block new) (sym e),
-                λ none. elim (at t) [
-                  | inl (same, joins) ↦ both_ways _ (joins (ap block e)) (and_from reached _
-                      (is_reached.1 (subst (Reachable A) e path))
-                      (eq-eqb _ _ (ap (number_at block old) (sym e) ∙ sym same ∙ none)))
-                  | inr (_, _, _, now) ↦ absurd (omega (arith, now, none, few, low))
-                ],
-              )
-        ])
+    seen t l path =
+        let own = λ (e : t ≡ s). is_reached.1 (subst (Reachable A) e path) in
+        let before = λ (e : t < s). h.seen t e path in
+        let put = at_push old.numbers.items (number_at block new s) t in
+        rw takes.numbers (grind (arith, nat_tests, put, h.numbers_long, before, at t, own, few, low, l))
 
     numbered : (t : ℕ) → t < A.states → number_at block new t ≢ NONE →
         (number_at block new t < length new.classes.items)
@@ -233,8 +216,7 @@ module _ (rel : Relation) (A : System) (block : ℕ → ℕ) (laws : Laws rel A 
         | inl (joins, e) ↦ (
           h.counted.0,
           laws.kept s h.counted.0 (not_other joins) h.counted.1,
-          ap length e
-              ∙ h.counted.2,
+          ap length e ∙ h.counted.2,
         )
         | inr (begins, e) ↦ (
           h.counted.0 + 1,
@@ -242,11 +224,8 @@ module _ (rel : Relation) (A : System) (block : ℕ → ℕ) (laws : Laws rel A 
           omega (arith, ap length e, length_push old.classes.items (block s), h.counted.2),
         )
       ];
-      fewer = λ l. elim (TakesState-classes takes) [
-        | inl (_, e) ↦ omega (arith, ap length e)
-        | inr (begins, e) ↦ let d = other begins in
-            omega (arith, ap length e, length_push old.classes.items (block s), h.fewer (omega (arith, l, d)))
-      ];
+      fewer = λ l.
+          grind (arith, TakesState-classes takes, length_push old.classes.items (block s), h.fewer, other, l);
     }
 
   -- A class number is the quotient state for a class. The invariant of the loop (`Taken`) holds before any state is
