@@ -105,18 +105,14 @@ module _ {t next : ℕ} {old new : Search} (marks : MarksState t next old new) (
   places_ahead-marks places = let row = λ (s : ℕ). length (row_of s places) in elim (cases_Bool waits) [
     | inl w ↦
         let less = rows_part (is_ahead next old.marked.items) (is_ahead next new.marked.items) (λ s. eqb s t)
-        (ahead_less w) places in
+        (λ s. grind (arith, nat_tests, mark_at s, w)) places in
         rw (marks.queue, w) (omega (arith, less, sum_by_push row old.queue.items t))
-    | inr w ↦ rw (marks.queue, w, append-nil)
-        (ap (λ p. length (rows_of p places) + sum_by row old.queue.items) (λ i u. ahead_same w u i))
+    | inr w ↦
+        let same : (s : ℕ) → is_ahead next new.marked.items s ≡ is_ahead next old.marked.items s =
+        λ s. grind (arith, nat_tests, mark_at s, w) in
+        rw (marks.queue, w, append-nil)
+        (ap (λ p. length (rows_of p places) + sum_by row old.queue.items) (λ i u. same u i))
   ]
-    where
-      ahead_less : waits ≡ true → (s : ℕ) → cond (is_ahead next old.marked.items s) 1 0
-          ≡ cond (is_ahead next new.marked.items s) 1 0 + cond (eqb s t) 1 0
-      ahead_less w s = grind (arith, nat_tests, mark_at s)
-
-      ahead_same : waits ≡ false → (s : ℕ) → is_ahead next new.marked.items s ≡ is_ahead next old.marked.items s
-      ahead_same w s = grind (arith, nat_tests, mark_at s)
 
   -- When the state t is marked, the number of states that are not marked, plus the length of the queue, does not
   -- increase.

@@ -5,16 +5,16 @@
 -- transitions of a class.
 use Rattle.std.proofs.Common.{◌-◌, get_or, ◌≡◌, ◌≢◌, ◌⊎◌, ℕ, ◌+◌, ◌<◌, ◌≤◌, Bool, false, not, ◌&&◌, IsTrue, eqb, ltb}
 use Rattle.std.proofs.Common.{List, [], ◌++◌, length, slice_index, Contains, IsPermutation, ap, subst, inl, inr, arith}
-use Rattle.std.proofs.Common.{map, rules, nat_eq, ◌∷◌}
+use Rattle.std.proofs.Common.{map, rules, nat_eq}
 use Rattle.std.specs.List.{AllPairs, dedup}
 use Rattle.std.proofs.lemmas.Cmp.{on_total, then_total, nat_cmp_total}
 use Rattle.std.proofs.lemmas.List.Filters.{dedup_is}
 use Rattle.std.proofs.lemmas.List.Kept.{IsStrictlySortedBy-dedup, Contains-dedup, Contains-from_dedup}
 use Rattle.std.proofs.lemmas.List.Sorted.{Contains-permutation, IsPermutation-sym}
-use Rattle.std.proofs.lemmas.Map.Keys.{sorted_tail}
-use Rattle.std.proofs.lemmas.Map.Views.{All-after_first}
+use Rattle.std.proofs.lemmas.Map.Keys.{Less-from_sorted}
+use Rattle.std.specs.declared.cmp.Ordering.TheVariants.{Less, Greater}
 use Rattle.std.specs.Cmp.{IsTotalOrder}
-use Rattle.std.specs.List.Sorted.{IsSorted, IsPermutation, IsStrictlySortedBy}
+use Rattle.std.specs.List.Sorted.{IsSorted, IsPermutation}
 use Rattle.std.specs.declared.cmp.Ordering.{Ordering}
 use Rattle.std.specs.Ordering.{nat_cmp, ordering_then}
 use Rattle.std.specs.List.Retain.{IsFiltered, DiffersFromLast}
@@ -46,18 +46,16 @@ triple_total : IsTotalOrder triple_cmp
 triple_total = then_total (then_total (on_total (λ t. t.0) nat_cmp_total) (on_total (λ t. t.1) nat_cmp_total))
     (on_total (λ t. t.2) nat_cmp_total)
 
--- If a list is in strictly ascending order, its elements are pairwise different.
-rising_differ : {X : Type 0} {c : X → X → Ordering} (o : IsTotalOrder c) (xs : List X) → IsStrictlySortedBy c xs →
-    AllPairs (λ x y. x ≢ y) xs
-rising_differ o [] h = λ i j d low high. absurd (omega (arith, high))
-rising_differ {c = c} o (x ∷ xs) h = search (rules, All-after_first, rising_differ o xs (sorted_tail c x xs h))
-
 -- Suppose that the list ys is sorted, and that zs results from ys by removing each element that is equal to the element
 -- before it. Then the elements of zs are pairwise different.
 pub tidied_once : (ys zs : List Triple) → IsFiltered (DiffersFromLast triple_eq) [] ys zs → IsSorted triple_cmp ys →
     AllPairs (λ x y. x ≢ y) zs
-tidied_once ys zs filtered sorted = rw (dedup_is triple_eq ys zs filtered) (rising_differ triple_total
-    (dedup triple_eq ys) (IsStrictlySortedBy-dedup triple_total (λ x y. search rules) ys sorted))
+tidied_once ys zs filtered sorted = rw (dedup_is triple_eq ys zs filtered) (λ i j d low high same.
+    let y = get_or (dedup triple_eq ys) j d in
+    let less = Less-from_sorted triple_cmp (dedup triple_eq ys) i j d
+    (IsStrictlySortedBy-dedup triple_total (λ x y. search rules) ys sorted) low high in
+    let self : triple_cmp y y ≡ Less = rw same at less in
+    let bad : Less ≡ Greater = rw self at (triple_total.antisymm y y) in cc)
 
 -- `ShownPlace` holds if the quotient transition x (a transition between quotient states) comes from the transition
 -- `place`, which is one of the transitions of the state s. The quotient must not leave out x.
