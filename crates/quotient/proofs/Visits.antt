@@ -39,19 +39,7 @@ module _ (a b u : Grouped) (same : system_of u ≡ union_of (system_of a) (syste
   all = ap (λ m. r * m) places
     where
       places : length u.places ≡ length a.places + length b.places
-      places =
-          search (
-            rules,
-            length-map,
-            u.places,
-            u.labels,
-            a.places,
-            a.labels,
-            b.places,
-            b.labels,
-            a.states,
-            length-append,
-          )
+      places = let e = ap (λ s. length s.transitions) same in search (rules, e, length-map, length-append)
 
   -- The number of rounds and the number of visits (counted reads of transitions) of a comparison are at most the upper
   -- bounds for a comparison. This holds even if the refinement fails.
