@@ -26,7 +26,7 @@ use Rattle.quotient_core.specs.Triples.{HasShown, IsDroppedLabel, ShowEachOther}
 use Rattle.quotient_core.specs.declared.numbering.Numbering.{Numbering}
 use Rattle.theory.proofs.CallerLemmas.{leads_on, quotient_reordered}
 use Rattle.lts.proofs.CallerLemmas.{contains_mapped, mapped_contains, contains_passing}
-use Rattle.quotient_core.proofs.Showing.{ShownPlace, place_of, shown_place}
+use Rattle.quotient_core.proofs.Showing.{place_of, shown_place}
 
 -- If the triples of a list are pairwise different, and the label table has their label IDs, then the transitions that
 -- these triples denote are pairwise different.
@@ -122,15 +122,14 @@ module _ {rel : Relation} {g : Grouped} {n : Numbering} {dropped : Option ℕ} (
     each_is x c =
         let (s, m, d) = (shown.exactly x).0 c in
         let way = (is.numbering.reached s).0 m in
-        let from : ShownPlace rows s x = place_of rows s x d in
-        let e = from.place in
-        let on = way_on s e from.in_row way in
+        let (e, in_row, from, stays) = place_of rows s x d in
+        let on = way_on s e in_row way in
         let below = λ (t : ℕ) (w : Reachable A t). is.numbering.fits.below t ((is.numbering.reached t).1 w) in
         let number = is.numbering.number in
-        rw (← from.is) (
-          record { source = below s way; label = (in_range s e from.in_row).label; target = below (target_of e) on },
-          (s, target_of e, way, step_of s e from.in_row, number s way, number (target_of e) on),
-          λ gone. both_ways _ from.stays ((out_is s e from.in_row).1 gone),
+        rw (← from) (
+          record { source = below s way; label = (in_range s e in_row).label; target = below (target_of e) on },
+          (s, target_of e, way, step_of s e in_row, number s way, number (target_of e) on),
+          λ gone. both_ways _ stays ((out_is s e in_row).1 gone),
         )
 
     -- If the source and the target of a transition are replaced by the quotient states that represent them, the result
@@ -218,15 +217,14 @@ module _ {rel : Relation} {g : Grouped} {n : Numbering} {dropped : Option ℕ} (
       (contains_mapped (between_numbers rows s) row e d) ((inert_is s e ws d).1 (rw (label, to) inert)) in
       let counts = length-filter_both out (λ x. not (out x)) (λ x. refl) triples in
       absurd (omega (arith, counts, whole, length-map row (between_numbers rows s), found.1)) in
-      let from : ShownPlace rows t x = place_of rows t x c in
-      let e = from.place in
+      let (e, there, from, stays) = place_of rows t x c in
       let a = text_of g.labels (label_of e) in
       let (u, step, alike) = is.shows_all s t a (target_of e) ((same_is s t ws wt).0 same) none
-      (step_of t e from.in_row) (λ inert. both_ways _ from.stays ((inert_is t e wt from.in_row).1 inert)) in
+      (step_of t e there) (λ inert. both_ways _ stays ((inert_is t e wt there).1 inert)) in
       let (f, in_row, text, ends) = (is.steps s a u).0 step in
       let target : number_of rows (target_of f) ≡ number_of rows (target_of e) = ap (number_of rows) ends
-      ∙ sym ((same_is (target_of e) u (way_on t e from.in_row wt) (leads_on (AnyStep A) g.first s u ws (a, step))).1 alike) in
+      ∙ sym ((same_is (target_of e) u (way_on t e there wt) (leads_on (AnyStep A) g.first s u ws (a, step))).1 alike) in
       let label : label_of f ≡ label_of e = is.lts.table.different (label_of f) (label_of e)
-      (in_range s f in_row).label (in_range t e from.in_row).label text in
+      (in_range s f in_row).label (in_range t e there).label text in
       let shown : between_numbers rows s f ≡ between_numbers rows t e = λ i. (same i, label i, target i) in
-      subst (Contains (shown_by rows s)) (shown ∙ from.is) (shown_place rows s f in_row (rw shown from.stays))
+      subst (Contains (shown_by rows s)) (shown ∙ from) (shown_place rows s f in_row (rw shown stays))

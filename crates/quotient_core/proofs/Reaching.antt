@@ -23,7 +23,7 @@ use Rattle.quotient_core.proofs.Visits.{visits_then, rows_part, rows_few}
 -- `Follows` holds if the following is true for each marked state u that is less than `next` and is not in the queue
 -- `waiting`: each state v to which R leads from u, with any label a, is marked. The search scans the states in the
 -- order of their numbers, and has already passed all states that are less than `next`.
-abbrev Follows : (ℕ → List ℕ → ℕ → Type 0) → List Bool → ℕ → List ℕ → Type 0
+abbrev pub Follows : (ℕ → List ℕ → ℕ → Type 0) → List Bool → ℕ → List ℕ → Type 0
 Follows R marked next waiting =
     (u v : ℕ) (a : List ℕ) → u < next → IsMarked marked u → R u a v → Contains waiting u ⊎ IsMarked marked v
 
@@ -48,24 +48,13 @@ ReadsOnce-first g at below reached = record {
 -- the queue.
 module _ {t next : ℕ} {old new : Search} (marks : MarksState t next old new) (l : t < length old.marked.items) where
   -- When the state t is marked, the marks of all other states stay the same.
-  mark_at : (u : ℕ) → ((u ≡ t) × (get_or new.marked.items u false ≡ true))
+  pub mark_at : (u : ℕ) → ((u ≡ t) × (get_or new.marked.items u false ≡ true))
       ⊎ ((u ≢ t) × (get_or new.marked.items u false ≡ get_or old.marked.items u false))
   mark_at u = let other = get_or-set_other old.marked.items t u true false in
       rw marks.marked (grind (arith, cases_eq u t, get_or-set_same old.marked.items t true false l, other))
 
-  MarksState-keeps : (u : ℕ) → IsMarked old.marked.items u → IsMarked new.marked.items u
-  MarksState-keeps u m = grind (arith, mark_at u)
-
-  MarksState-self : IsMarked new.marked.items t
-  MarksState-self = grind (arith, mark_at t)
-
   abbrev waits : Bool
   waits = ltb t next && not (get_or old.marked.items t false)
-
-  waits_cases : (waiting : List ℕ) (u : ℕ) → Contains (waiting ++ cond waits (t ∷ []) []) u → Contains waiting u
-      ⊎ (t ≡ u)
-  waits_cases waiting u c = let parts = Contains-append_cases waiting (cond waits (t ∷ []) []) u c in
-      grind (arith, nat_tests, parts, contains_cases t [] u, contains_none u)
 
   follows_mark : (R : ℕ → List ℕ → ℕ → Type 0) (waiting : List ℕ) → Follows R old.marked.items next waiting →
       Follows R new.marked.items next (waiting ++ cond waits (t ∷ []) [])
@@ -86,18 +75,12 @@ module _ {t next : ℕ} {old new : Search} (marks : MarksState t next old new) (
       let size : length new.marked.items
       ≡ g.states = rw marks.marked (omega (arith, length-set {A = Bool}, held.size)) in
       let each : (u : ℕ) → Contains (waiting ++ cond waits (t ∷ []) []) u → IsMarked new.marked.items u =
-      λ u c. grind (arith, held.each_waiting u, waits_cases waiting u c, MarksState-keeps u, MarksState-self) in
+      λ u c. let parts = Contains-append_cases waiting (cond waits (t ∷ []) []) u c in
+      grind (arith, nat_tests, parts, contains_cases t [] u, contains_none u, held.each_waiting u, mark_at u) in
       let only : (u : ℕ) → IsMarked new.marked.items u → IsMarked old.marked.items u ⊎ (t ≡ u) =
       λ u m. grind (arith, mark_at u) in
-      rw marks.queue (search (rules, held, size, way, each, on, only, MarksState-keeps))
-
-  -- The place of a transition is its index in the list of all transitions. Suppose that the targets of the transitions
-  -- at the places from `start` to k - 1 are marked. If the search marks the target of the transition at the place k,
-  -- then the targets of the transitions at the places from `start` to k are marked.
-  pub targets_marked : (target : ℕ → ℕ) (start k : ℕ) → t ≡ target k → ((j : ℕ) → start ≤ j → j < k →
-      IsMarked old.marked.items (target j)) → (j : ℕ) → start ≤ j → j < k + 1 → IsMarked new.marked.items (target j)
-  targets_marked target start k is read j low high =
-      grind (arith, cases_eq j k, read j, MarksState-keeps (target j), MarksState-self)
+      let keeps : (u : ℕ) → IsMarked old.marked.items u → IsMarked new.marked.items u = λ u m. grind (arith, mark_at u) in
+      rw marks.queue (search (rules, held, size, way, each, on, only, keeps))
 
   -- When the state t is marked, the number of transitions that the search may still read stays the same.
   pub places_ahead-marks : (places : List Triple) → places_ahead places next new.marked.items new.queue.items
@@ -119,16 +102,6 @@ module _ {t next : ℕ} {old new : Search} (marks : MarksState t next old new) (
   pub states_ahead-marks : states_ahead new ≤ states_ahead old
   states_ahead-marks = let sum = sum_by-set (λ b. cond (not b) 1 0) old.marked.items t true false l in
       rw (marks.marked, marks.queue) (grind (arith, nat_tests, append-nil {A = ℕ}, length_push {X = ℕ}, sum))
-
--- Suppose that the targets of all steps of the state s are marked, and that s is removed from the front of the queue.
--- Then the invariant of the search (`Searches`) still holds.
-pub Searches-read : (g : Grouped) (s next : ℕ) (marked : List Bool) (queue : List ℕ) →
-    ((a : List ℕ) (t : ℕ) → Step (system_of g) s a t → IsMarked marked t) →
-    Searches g marked next (s ∷ queue) → Searches g marked next queue
-Searches-read g s next marked queue read held =
-    let on : Follows (Step (system_of g)) marked next queue =
-    λ u v a l m r. grind (arith, held.followed u v a, contains_cases s queue u, read a v) in
-    search (rules, held, contains_there, on)
 
 -- The following lemmas assume that the search has read each transition at most once, and that the meter has counted
 -- these reads (`ReadsOnce`).

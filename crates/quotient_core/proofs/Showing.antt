@@ -57,21 +57,16 @@ tidied_once ys zs filtered sorted = rw (dedup_is triple_eq ys zs filtered) (λ i
     let self : triple_cmp y y ≡ Less = rw same at less in
     let bad : Less ≡ Greater = rw self at (triple_total.antisymm y y) in cc)
 
--- `ShownPlace` holds if the quotient transition x (a transition between quotient states) comes from the transition
--- `place`, which is one of the transitions of the state s. The quotient must not leave out x.
-pub record ShownPlace (rows : Numbered) (s : ℕ) (x : Triple) : Type 0 where
-  pub place : Triple
-  pub in_row : Contains (row_of s rows.l.places) place
-  pub is : between_numbers rows s place ≡ x
-  pub stays : is_left_out rows.dropped (between_numbers rows s place) ≡ false
-
 module _ (rows : Numbered) (s : ℕ) where
-  pub place_of : (x : Triple) → Contains (shown_by rows s) x → ShownPlace rows s x
+  -- Each quotient transition x of the state s (a transition between quotient states) comes from a transition of s. The
+  -- quotient does not leave out x.
+  pub place_of : (x : Triple) → Contains (shown_by rows s) x → (e : Triple) × Contains (row_of s rows.l.places) e
+      × (between_numbers rows s e ≡ x) × (is_left_out rows.dropped (between_numbers rows s e) ≡ false)
   place_of x c =
       let shows = passing_contains (λ y. not (is_left_out rows.dropped y))
       (map (between_numbers rows s) (row_of s rows.l.places)) x c in
       let from = mapped_contains (between_numbers rows s) (row_of s rows.l.places) x shows.0 in
-      record { place = from.0; in_row = from.1; is = from.2; stays = rw from.2 (not-true _ shows.1) }
+      (from.0, from.1, from.2, rw from.2 (not-true _ shows.1))
 
   pub shown_place : (e : Triple) → Contains (row_of s rows.l.places) e →
       is_left_out rows.dropped (between_numbers rows s e) ≡ false →
@@ -185,8 +180,8 @@ once_next rows n xs ys h g one other i j d low high =
     differ : {x : Triple} → (s : ℕ) × IsTrue (is_below rows n s) × Contains (shown_by rows s) x →
         (t : ℕ) × IsTrue (is_member rows n t) × Contains (shown_by rows t) x → ⊥
     differ {x} (s, low, c) (t, is, e) =
-        let one = (place_of rows s x c).is in
-        let two = (place_of rows t x e).is in
+        let (_, _, one, _) = place_of rows s x c in
+        let (_, _, two, _) = place_of rows t x e in
         grind (arith, nat_tests, low, is, ap source_of one, ap source_of two)
 
 -- `was_read` is true if the state s is a member of the class n, and is among the first k states that the loop of
