@@ -94,14 +94,10 @@ module _ {rel : Relation} {g : Grouped} {n : Numbering} {dropped : Option ℕ} (
   in_range s e c = All-contains (IsTriple (length g.labels) g.states) g.places e is.lts.in_range.each
       ((is.sources s g.places e).0 c).0
 
-  -- Each transition in the row of the state s, which is the list of its transitions, is a step of the system from s. If
-  -- s is reachable, then the target of this transition is reachable.
-  step_of : (s : ℕ) (e : Triple) → Contains (row_of s g.places) e →
-      Step A s (text_of g.labels (label_of e)) (target_of e)
-  step_of s e c = (is.steps s (text_of g.labels (label_of e)) (target_of e)).1 (e, c, refl, refl)
-
+  -- If the state s is reachable, then the target of each transition in the row of s, which is the list of its
+  -- transitions, is reachable.
   way_on : (s : ℕ) (e : Triple) → Contains (row_of s g.places) e → Reachable A s → Reachable A (target_of e)
-  way_on s e c way = leads_on (AnyStep A) g.first s (target_of e) way (text_of g.labels (label_of e), step_of s e c)
+  way_on s e c way = leads_on (AnyStep A) g.first s (target_of e) way (_, (is.steps s _ _).1 (e, c, refl, refl))
 
   -- For each transition, the program makes a triple with the label ID of the transition, and with the class numbers
   -- (the quotient states) of its source and its target. The program leaves out this triple if and only if the quotient
@@ -128,7 +124,7 @@ module _ {rel : Relation} {g : Grouped} {n : Numbering} {dropped : Option ℕ} (
         let number = is.numbering.number in
         rw (← from) (
           record { source = below s way; label = (in_range s e in_row).label; target = below (target_of e) on },
-          (s, target_of e, way, step_of s e in_row, number s way, number (target_of e) on),
+          (s, target_of e, way, (is.steps s _ _).1 (e, in_row, refl, refl), number s way, number (target_of e) on),
           λ gone. both_ways _ stays ((out_is s e in_row).1 gone),
         )
 
@@ -220,7 +216,7 @@ module _ {rel : Relation} {g : Grouped} {n : Numbering} {dropped : Option ℕ} (
       let (e, there, from, stays) = place_of rows t x c in
       let a = text_of g.labels (label_of e) in
       let (u, step, alike) = is.shows_all s t a (target_of e) ((same_is s t ws wt).0 same) none
-      (step_of t e there) (λ inert. both_ways _ stays ((inert_is t e wt there).1 inert)) in
+      ((is.steps t _ _).1 (e, there, refl, refl)) (λ inert. both_ways _ stays ((inert_is t e wt there).1 inert)) in
       let (f, in_row, text, ends) = (is.steps s a u).0 step in
       let target : number_of rows (target_of f) ≡ number_of rows (target_of e) = ap (number_of rows) ends
       ∙ sym ((same_is (target_of e) u (way_on t e there wt) (leads_on (AnyStep A) g.first s u ws (a, step))).1 alike) in
