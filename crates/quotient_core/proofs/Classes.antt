@@ -169,11 +169,10 @@ module _ (rel : Relation) (A : System) (block : ℕ → ℕ) (laws : Laws rel A 
     at : (t : ℕ) → ((number_at block new t ≡ number_at block old t) × (block t ≡ block s →
         begins_class (block s) reached old ≡ false)) ⊎ ((begins_class (block s) reached old ≡ true)
         × (block t ≡ block s) × (number_at block old t ≡ NONE) × (number_at block new t ≡ count))
-    at t = rw takes.by_block (elim (at_put old.by_block.items (block s) (block t) count
-        (begins_class (block s) reached old) within) [
-          | inl same ↦ inl same
-          | inr (begins, e, is) ↦ inr (begins, e, ap (slice_index old.by_block.items) e ∙ (begun begins).1, is)
-        ])
+    at t =
+        let put = at_put old.by_block.items (block s) (block t) count (begins_class (block s) reached old) within in
+        let none = λ (begins : begins_class (block s) reached old ≡ true). (begun begins).1 in
+        rw takes.by_block (grind (arith, nat_tests, put, none))
 
     -- A class number is the quotient state for a class. Suppose that the state t is s, or was given its class number
     -- before s. Then the class number of t is the class number of its block.
