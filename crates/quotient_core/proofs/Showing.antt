@@ -76,13 +76,6 @@ module _ (rows : Numbered) (s : ℕ) where
       (contains_mapped (between_numbers rows s) (row_of s rows.l.places) e c) (not_from_false _ stays)
 
 module _ {rows : Numbered} where
-  -- Quotient transitions are transitions between quotient states, which represent the classes of states. Suppose that p
-  -- and q are satisfied by the same states. If a list has exactly the quotient transitions of the states that satisfy
-  -- p, then the list also has exactly the quotient transitions of the states that satisfy q.
-  pub shown_same : {p q : ℕ → Bool} {list : List Triple} → ((s : ℕ) → p s ≡ q s) → HasShown rows p list →
-      HasShown rows q list
-  shown_same {list = list} same h = subst (λ t. HasShown rows t list) (λ i s. same s i) h
-
   -- Quotient transitions are transitions between quotient states, which represent the classes of states. Suppose that
   -- each state that satisfies p satisfies exactly one of q and r, and that each other state satisfies neither q nor r
   -- (`Parts`). If xs has the quotient transitions of the states that satisfy q, and ys has the quotient transitions of
@@ -105,11 +98,6 @@ module _ {rows : Numbered} where
     where
       cases : (s : ℕ) → IsTrue (p s) → IsTrue (q s) ⊎ IsTrue (r s)
       cases s h = grind (arith, parts s)
-
-  -- Suppose that a list has exactly the quotient transitions (transitions between quotient states) of the states in a
-  -- set (`HasShown`). Then the length of the list is at most the number of all transitions of the system.
-  pub shown_all : {p : ℕ → Bool} {list : List Triple} → HasShown rows p list → length list ≤ length rows.l.places
-  shown_all {p} h = omega (arith, h.few, rows_few p rows.l.places)
 
   -- The list `shown_by rows s` has exactly the quotient transitions (transitions between quotient states) of the set
   -- that contains only the state s.
@@ -155,12 +143,6 @@ pub rows_fit : (rows : Numbered) (n : ℕ) → length (rows_of (is_below rows n)
     + length (rows_of (is_member rows n) rows.l.places) ≤ length rows.l.places
 rows_fit rows n = let part = rows_part _ _ _ (below_next rows n) rows.l.places in
     omega (arith, part, rows_few (is_below rows (n + 1)) rows.l.places)
-
--- The class number of each reachable state, which is the quotient state that represents it, is less than the number of
--- classes.
-pub below_count : (rows : Numbered) → AreNumbered rows.l.states rows.n → (s : ℕ) →
-    is_below rows (length rows.n.classes.items) s ≡ is_reached rows s
-below_count rows are s = grind (arith, nat_tests, are.below s)
 
 -- Quotient transitions are transitions between quotient states, which represent the classes of states. Suppose that the
 -- quotient transitions of the classes with numbers less than n are pairwise different, and that the quotient
@@ -220,7 +202,9 @@ module _ {rows : Numbered} {n : ℕ} {members : List ℕ} {k : ℕ} {class : Lis
       omega (arith, rows_part (is_member rows n) (read i) rest (λ s. grind (arith, nat_tests)) rows.l.places)
 
   pub read_all : length members ≤ k → HasShown rows (is_member rows n) class
-  read_all end = shown_same (λ s. grind (arith, nat_tests, there s)) h.shown
+  read_all end =
+      let same : (s : ℕ) → read k s ≡ is_member rows n s = λ s. grind (arith, nat_tests, there s) in
+      subst (λ p. HasShown rows p class) (λ i s. same s i) h.shown
 
   -- The loop of `read_class` takes the states of a block one after the other. In the following lemmas, k states have
   -- been taken so far, and `next` is the state that the loop takes next.
@@ -236,7 +220,7 @@ module _ {rows : Numbered} {n : ℕ} {members : List ℕ} {k : ℕ} {class : Lis
     pub read_over : is_reached rows next ≡ false → IsReadTo rows n members (k + 1) class old mid
     read_over out =
         let same : (s : ℕ) → read k s ≡ read (k + 1) s = λ s. grind (arith, nat_tests, there s) in
-        let shown : HasShown rows (read (k + 1)) class = shown_same same h.shown in
+        let shown : HasShown rows (read (k + 1)) class = subst (λ p. HasShown rows p class) (λ i s. same s i) h.shown in
         let visits : let own = rows_of (read (k + 1)) rows.l.places in Costs old mid 0 0 (length own) =
         subst (λ (p : ℕ → Bool). Costs old mid 0 0 (length (rows_of p rows.l.places))) (λ i s. same s i) h.visits in
         search (rules, h, shown, visits)

@@ -1,10 +1,10 @@
-use Rattle.std.proofs.Common.{rules, ◌≡◌, ◌≤◌, length, arith}
+use Rattle.std.proofs.Common.{ℕ, false, get_or, rules, ◌≡◌, ◌≤◌, length, arith}
 use Rattle.std.proofs.lemmas.List.Sorted.{length_permutation}
 use Rattle.std.proofs.lemmas.Result.{IfOk-weaker}
 use Rattle.lts.specs.Lts.{system_of}
 use Rattle.quotient_core.specs.Triples.{Numbered, HasShown, is_reached}
 use Rattle.quotient_core.proofs.Quotients.{IsNumbered, quotient_in_range, built, show_each_other}
-use Rattle.quotient_core.proofs.Showing.{shown_all}
+use Rattle.quotient_core.proofs.Visits.{rows_few}
 use Rattle.quotient_core.proofs.quotient.quotient_of.Given.{Over}
 use Rattle.quotient_core.proofs.quotient.quotient_of.Goals as goal
 use Rattle.quotient_core.proofs.quotient.quotient_of.Goals.{After-new-rows, In_ok-shown, After-len}
@@ -40,7 +40,8 @@ shown : (g : Over) (c : In_ok-shown g) → let rows : Numbered = record {
 shown g c = rw c.new-rows.ensures at c.in_ok-shown.ensures.shown
 
 less : (g : Over) (c : In_ok-shown g) → length c.in_ok-shown.shown ≤ length c.args.l.now.places
-less g c = shown_all (shown g c)
+less g c = let reached = λ (s : ℕ). get_or c.args.numbering.now.reached.items s false in
+    omega (arith, (shown g c).few, rows_few reached c.args.l.now.places)
 
 counted : (g : Over) (c : After-len g) → c.len.result ≡ length c.args.numbering.now.classes.items
 counted g c = search (rules, c.args.numbering.now.classes.ok)
