@@ -12,7 +12,7 @@ use Rattle.std.proofs.lemmas.List.{length-map, get_or-map, get_or_default}
 use Rattle.std.proofs.lemmas.List.Elements.{All-contains, Contains-get_or}
 use Rattle.std.proofs.lemmas.List.Filters.{length-filter_both}
 use Rattle.std.proofs.lemmas.List.Sorted.{IsPermutation-map, IsPermutation-sym}
-use Rattle.theory.specs.System.{System, Transition, AnyStep, Step, Reachable}
+use Rattle.theory.specs.System.{System, AnyStep, Step, Reachable}
 use Rattle.theory.specs.Bisimulation.{Bisimilar}
 use Rattle.theory.specs.declared.relation.Relation.{Relation}
 use Rattle.theory.specs.declared.relation.Relation.TheVariants.{Strong, Branching}
@@ -99,14 +99,6 @@ module _ {rel : Relation} {g : Grouped} {n : Numbering} {dropped : Option ℕ} (
   way_on : (s : ℕ) (e : Triple) → Contains (row_of s g.places) e → Reachable A s → Reachable A (target_of e)
   way_on s e c way = leads_on (AnyStep A) g.first s (target_of e) way (_, (is.steps s _ _).1 (e, c, refl, refl))
 
-  -- For each transition, the program makes a triple with the label ID of the transition, and with the class numbers
-  -- (the quotient states) of its source and its target. The program leaves out this triple if and only if the quotient
-  -- drops the transition that the triple denotes.
-  out_is : (s : ℕ) (e : Triple) → Contains (row_of s g.places) e
-      → (is_left_out dropped (between_numbers rows s e) ≡ true)
-      ↔ IsDropped rel (transition_of g.labels (between_numbers rows s e))
-  out_is s e c = left_out_is rel g.labels dropped is.lts.table is.drops _ (in_range s e c).label
-
   module _ (es : List Triple) (shown : HasShown rows (is_reached rows) es) (once : AllPairs (λ x y. x ≢ y) es) where
     -- If the source and the target of a transition are replaced by the quotient states that represent them, the result
     -- is a quotient transition of the original source, unless the quotient leaves the result out. Let the list `es`
@@ -120,33 +112,15 @@ module _ {rel : Relation} {g : Grouped} {n : Numbering} {dropped : Option ℕ} (
         let way = (is.numbering.reached s).0 m in
         let (e, in_row, from, stays) = place_of rows s x d in
         let on = way_on s e in_row way in
+        let out =
+        left_out_is rel g.labels dropped is.lts.table is.drops (between_numbers rows s e) (in_range s e in_row).label in
         let below = λ (t : ℕ) (w : Reachable A t). is.numbering.fits.below t ((is.numbering.reached t).1 w) in
         let number = is.numbering.number in
         rw (← from) (
           record { source = below s way; label = (in_range s e in_row).label; target = below (target_of e) on },
           (s, target_of e, way, (is.steps s _ _).1 (e, in_row, refl, refl), number s way, number (target_of e) on),
-          λ gone. both_ways _ stays ((out_is s e in_row).1 gone),
+          λ gone. both_ways _ stays (out.1 gone),
         )
-
-    -- If the source and the target of a transition are replaced by the quotient states that represent them, the result
-    -- is a quotient transition of the original source, unless the quotient leaves the result out. Let the list `es`
-    -- have exactly the quotient transitions of all reachable states. Suppose that a transition e between quotient
-    -- states comes from a step of a reachable state, and that the quotient does not drop e. Then `es` has a triple for
-    -- e.
-    all_are : (e : Transition) → IsQuotientStep rel A e → ¬ IsDropped rel e
-        → Contains (map (transition_of g.labels) es) e
-    all_are e (s, t, way, step, hs, ht) stays =
-        let (f, in_row, label, to) = (is.steps s e.label t).0 step in
-        let on : Reachable A t = leads_on (AnyStep A) g.first s t way (e.label, step) in
-        let source : number_of rows s ≡ e.source = is.one_number s _ _ (is.numbering.number s way) hs in
-        let target : number_of rows (target_of f) ≡ e.target =
-        ap (number_of rows) to ∙ is.one_number t _ _ (is.numbering.number t on) ht in
-        let same : transition_of g.labels (between_numbers rows s f) ≡ e =
-        λ i. record { source = source i; label = label i; target = target i } in
-        let place = shown_place rows s f in_row (false_from_ne_true _
-        (λ gone. stays (subst (IsDropped rel) same ((out_is s f in_row).0 gone)))) in
-        subst (Contains (map (transition_of g.labels) es)) same (contains_mapped (transition_of g.labels) es _
-        ((shown.exactly (between_numbers rows s f)).1 (s, (is.numbering.reached s).1 way, place)))
 
     -- If the source and the target of a transition are replaced by the quotient states that represent them, the result
     -- is a quotient transition of the original source, unless the quotient leaves the result out. Let the list `es`
@@ -175,7 +149,21 @@ module _ {rel : Relation} {g : Grouped} {n : Numbering} {dropped : Option ℕ} (
             λ c.
                 let x = mapped_contains (transition_of g.labels) es e c in
                 let is = each_is x.0 x.1 in subst (λ f. IsQuotientStep rel A f × ¬ IsDropped rel f) x.2 (is.1, is.2),
-            λ h. all_are e h.0 h.1,
+            λ h.
+                let ((s, t, way, step, hs, ht), stays) = h in
+                let (f, in_row, label, to) = (is.steps s e.label t).0 step in
+                let on : Reachable A t = leads_on (AnyStep A) g.first s t way (e.label, step) in
+                let source : number_of rows s ≡ e.source = is.one_number s _ _ (is.numbering.number s way) hs in
+                let target : number_of rows (target_of f) ≡ e.target =
+                ap (number_of rows) to ∙ is.one_number t _ _ (is.numbering.number t on) ht in
+                let same : transition_of g.labels (between_numbers rows s f) ≡ e =
+                λ i. record { source = source i; label = label i; target = target i } in
+                let out = left_out_is rel g.labels dropped is.lts.table is.drops (between_numbers rows s f)
+                (in_range s f in_row).label in
+                let place = shown_place rows s f in_row (false_from_ne_true _
+                (λ gone. stays (subst (IsDropped rel) same (out.0 gone)))) in
+                subst (Contains (map (transition_of g.labels) es)) same (contains_mapped (transition_of g.labels) es _
+                ((shown.exactly (between_numbers rows s f)).1 (s, (is.numbering.reached s).1 way, place))),
           );
           once = transitions_differ g.labels es is.lts.table (λ x c. (each_is x c).0.label) once;
         } in
@@ -194,7 +182,8 @@ module _ {rel : Relation} {g : Grouped} {n : Numbering} {dropped : Option ℕ} (
       (text_of g.labels (label_of e)) (target_of e)
   inert_is s e way c = let inert = dropped_is rel A g.labels (between_numbers rows s e) s (target_of e)
       (same_is s (target_of e) way (way_on s e c way)) in
-      (λ out. inert.0 ((out_is s e c).0 out), λ nothing. (out_is s e c).1 (inert.1 nothing))
+      let out = left_out_is rel g.labels dropped is.lts.table is.drops (between_numbers rows s e) (in_range s e c).label in
+      (λ gone. inert.0 (out.0 gone), λ nothing. out.1 (inert.1 nothing))
 
   -- If the source and the target of a transition are replaced by the quotient states that represent them, the result is
   -- a quotient transition of the original source, unless the quotient leaves the result out. Suppose that the same
