@@ -174,43 +174,28 @@ module _ (rel : Relation) (A : System) (block : ℕ → ℕ) (laws : Laws rel A 
         let none = λ (begins : begins_class (block s) reached old ≡ true). (begun begins).1 in
         rw takes.by_block (grind (arith, nat_tests, put, none))
 
-    -- A class number is the quotient state for a class. Suppose that the state t is s, or was given its class number
-    -- before s. Then the class number of t is the class number of its block.
-    seen : (t : ℕ) → t < s + 1 → Reachable A t →
-        (slice_index new.numbers.items t ≡ number_at block new t) × (number_at block new t ≢ NONE)
-    seen t l path =
-        let own = λ (e : t ≡ s). is_reached.1 (subst (Reachable A) e path) in
-        let before = λ (e : t < s). h.seen t e path in
-        let put = at_push old.numbers.items (number_at block new s) t in
-        rw takes.numbers (grind (arith, nat_tests, put, h.numbers_long, before, at t, own, few, low, l))
-
-    numbered : (t : ℕ) → t < A.states → number_at block new t ≢ NONE →
-        (number_at block new t < length new.classes.items)
-        × ((u : ℕ) → Reachable A u → block u ≡ block t → Number rel A u (number_at block new t))
-    numbered t l some = elim (at t) [
-      | inl (is, _) ↦ let had = h.numbered t l (λ none. some (is ∙ none)) in
-          rw is (omega (arith, had.0, (TakesState-room takes).1), had.1)
-      | inr (begins, e, _, is) ↦ rw is (
-        omega (arith, ap length (rw begins at takes.classes), length_push old.classes.items (block s)),
-        λ u way to. number_shared s u count (begun begins).0 way (sym (to ∙ e)) (number begins),
-      )
-    ]
-
-    classes : (t i : ℕ) → t < A.states → i < length new.classes.items →
-        (slice_index new.classes.items i ≡ block t) ↔ (number_at block new t ≡ i)
-    classes t i l below =
-        let less = λ (some : number_at block old t ≢ NONE). (h.numbered t l some).0 in
-        grind (arith, h.classes t i l, at t, class_at takes i below, less, few, low)
-
     -- If the invariant of the loop (`Taken`) holds before the state s is given its class number (the quotient state
     -- that represents it), then the invariant also holds afterwards.
     pub Taken-adds : Taken rel A block (s + 1) new
     Taken-adds = record {
       numbers_long = rw takes.numbers (omega (arith, length_push {X = ℕ}, h.numbers_long));
       first = grind (arith, at A.first, h.first);
-      seen = seen;
-      numbered = numbered;
-      classes = classes;
+      seen = λ t l path.
+          let own = λ (e : t ≡ s). is_reached.1 (subst (Reachable A) e path) in
+          let before = λ (e : t < s). h.seen t e path in
+          let put = at_push old.numbers.items (number_at block new s) t in
+          rw takes.numbers (grind (arith, nat_tests, put, h.numbers_long, before, at t, own, few, low, l));
+      numbered = λ t l some. elim (at t) [
+        | inl (is, _) ↦ let had = h.numbered t l (λ none. some (is ∙ none)) in
+            rw is (omega (arith, had.0, (TakesState-room takes).1), had.1)
+        | inr (begins, e, _, is) ↦ rw is (
+          omega (arith, ap length (rw begins at takes.classes), length_push old.classes.items (block s)),
+          λ u way to. number_shared s u count (begun begins).0 way (sym (to ∙ e)) (number begins),
+        )
+      ];
+      classes = λ t i l below.
+          let less = λ (some : number_at block old t ≢ NONE). (h.numbered t l some).0 in
+          grind (arith, h.classes t i l, at t, class_at takes i below, less, few, low);
       counted = elim (TakesState-classes takes) [
         | inl (joins, e) ↦ (
           h.counted.0,

@@ -182,7 +182,8 @@ module _ {rel : Relation} {g : Grouped} {n : Numbering} {dropped : Option ℕ} (
       (text_of g.labels (label_of e)) (target_of e)
   inert_is s e way c = let inert = dropped_is rel A g.labels (between_numbers rows s e) s (target_of e)
       (same_is s (target_of e) way (way_on s e c way)) in
-      let out = left_out_is rel g.labels dropped is.lts.table is.drops (between_numbers rows s e) (in_range s e c).label in
+      let x = between_numbers rows s e in
+      let out = left_out_is rel g.labels dropped is.lts.table is.drops x (in_range s e c).label in
       (λ gone. inert.0 (out.0 gone), λ nothing. out.1 (inert.1 nothing))
 
   -- If the source and the target of a transition are replaced by the quotient states that represent them, the result is

@@ -79,7 +79,8 @@ module _ {t next : ℕ} {old new : Search} (marks : MarksState t next old new) (
       grind (arith, nat_tests, parts, contains_cases t [] u, contains_none u, held.each_waiting u, mark_at u) in
       let only : (u : ℕ) → IsMarked new.marked.items u → IsMarked old.marked.items u ⊎ (t ≡ u) =
       λ u m. grind (arith, mark_at u) in
-      let keeps : (u : ℕ) → IsMarked old.marked.items u → IsMarked new.marked.items u = λ u m. grind (arith, mark_at u) in
+      let keeps : (u : ℕ) → IsMarked old.marked.items u → IsMarked new.marked.items u =
+      λ u m. grind (arith, mark_at u) in
       rw marks.queue (search (rules, held, size, way, each, on, only, keeps))
 
   -- When the state t is marked, the number of transitions that the search may still read stays the same.

@@ -23,7 +23,7 @@ use Rattle.std.proofs.lemmas.List.{length-append, length-map}
 use Rattle.std.proofs.lemmas.List.Elements.{Contains-get_or, Contains-append_cases, Contains-append_left}
 use Rattle.std.proofs.lemmas.List.Elements.{Contains-append_right}
 use Rattle.lts.specs.Lts.{Triple, source_of, row_of}
-use Rattle.lts.specs.Meter.{Counts, HasRoomFor, Costs}
+use Rattle.lts.specs.Meter.{Counts, Costs}
 use Rattle.partition.specs.Blocks.{AreStatesOf}
 use Rattle.quotient_core.specs.Numbers.{AreNumbered}
 use Rattle.quotient_core.specs.Triples.{Numbered, number_of, shown_by, is_reached, is_member, ShowEachOther, rows_of}
@@ -33,7 +33,7 @@ use Rattle.quotient_core.proofs.Reaching.{marked_below}
 use Rattle.lts.proofs.CallerLemmas.{contains_mapped, mapped_contains, contains_passing, passing_contains}
 use Rattle.std.proofs.lemmas.Bool.{not-true, not_from_false}
 use Rattle.std.proofs.lemmas.List.Sums.{length-filter, count_by-le-length}
-use Rattle.quotient_core.proofs.Visits.{visits_then, room_after, Parts, rows_part, rows_few}
+use Rattle.quotient_core.proofs.Visits.{visits_then, Parts, rows_part, rows_few}
 
 -- `triple_cmp` compares two triples: first by source, then by label, then by target.
 abbrev triple_cmp : Triple → Triple → Ordering
@@ -234,13 +234,9 @@ module _ {rows : Numbered} {n : ℕ} {members : List ℕ} {k : ℕ} {class : Lis
 
       -- The number of transitions of `next`, plus the number of transitions of the members that were read before, is at
       -- most the number of transitions of all members of the class.
-      fits : length (rows_of (read k) rows.l.places) + length (row_of next rows.l.places)
+      pub fits : length (rows_of (read k) rows.l.places) + length (row_of next rows.l.places)
           ≤ length (rows_of (is_member rows n) rows.l.places)
       fits = omega (arith, rows_part _ _ _ next_parts rows.l.places, read_few (k + 1))
-
-      pub read_room : HasRoomFor old 0 (length (rows_of (is_member rows n) rows.l.places)) →
-          HasRoomFor mid 0 (length (row_of next rows.l.places))
-      read_room room = room_after room h.visits fits
 
       module _ {new : Counts} (row : Costs mid new 0 0 (length (row_of next rows.l.places))) where
         pub read_visits : Costs old new 0 0 (length (rows_of (is_member rows n) rows.l.places))
