@@ -147,9 +147,6 @@ module _ (rel : Relation) (A : System) (block : ℕ → ℕ) (laws : Laws rel A 
           let own = (share s s begun.0 begun.0).0 refl in
           inr (λ b. apart (sym ((share s A.first begun.0 ([], refl)).1 b)), ((begun.0, own), least))
 
-      number : Number rel A s count
-      number = (s, leads, inr (other, h.counted.0, h.counted.1, h.counted.2))
-
     -- Suppose that the block of the state s already has a class number, which is the quotient state for this block.
     -- Then s is not the leader of its class (the state that represents this class), unless s is the first state of the
     -- system.
@@ -190,7 +187,8 @@ module _ (rel : Relation) (A : System) (block : ℕ → ℕ) (laws : Laws rel A 
             rw is (omega (arith, had.0, (TakesState-room takes).1), had.1)
         | inr (begins, e, _, is) ↦ rw is (
           omega (arith, ap length (rw begins at takes.classes), length_push old.classes.items (block s)),
-          λ u way to. number_shared s u count (begun begins).0 way (sym (to ∙ e)) (number begins),
+          λ u way to. number_shared s u count (begun begins).0 way (sym (to ∙ e))
+              (s, leads begins, inr (other begins, h.counted.0, h.counted.1, h.counted.2)),
         )
       ];
       classes = λ t i l below.

@@ -114,7 +114,7 @@ module _ {rel : Relation} {g : Grouped} {n : Numbering} {dropped : Option ℕ} (
         let on = way_on s e in_row way in
         let out =
         left_out_is rel g.labels dropped is.lts.table is.drops (between_numbers rows s e) (in_range s e in_row).label in
-        let below = λ (t : ℕ) (w : Reachable A t). is.numbering.fits.below t ((is.numbering.reached t).1 w) in
+        let below = λ (t : ℕ) (w : Reachable A t). is.numbering.numbered.below t ((is.numbering.reached t).1 w) in
         let number = is.numbering.number in
         rw (← from) (
           record { source = below s way; label = (in_range s e in_row).label; target = below (target_of e) on },
@@ -127,7 +127,7 @@ module _ {rel : Relation} {g : Grouped} {n : Numbering} {dropped : Option ℕ} (
     -- have exactly the quotient transitions of all reachable states. If the length of `es` is at most the number of
     -- transitions of the given system, then `es` satisfies the limits on the size of a system (`InRange`).
     pub quotient_in_range : length es ≤ length g.places → InRange (length g.labels) 0 count es
-    quotient_in_range few = let some = is.numbering.fits.below g.first
+    quotient_in_range few = let some = is.numbering.numbered.below g.first
         ((is.numbering.reached g.first).1 ([], refl)) in record {
           first_below = omega (arith, some);
           few_states = omega (arith, is.numbering.few, is.lts.in_range.few_states);

@@ -82,7 +82,7 @@ returns g c = λ rel classes. let A = system_of c.args.l.now in
     let seen = λ (s : ℕ) (way : Reachable A s). h.seen s (laws.below s way) way in
     let numbered = λ (s : ℕ) (way : Reachable A s). h.numbered s (laws.below s way) (seen s way).1 in
     record {
-      fits = record {
+      numbered = record {
         blocks_long = c.requires.blocks_long;
         reached_long = c.requires.reached_long;
         numbers_long = h.numbers_long;
