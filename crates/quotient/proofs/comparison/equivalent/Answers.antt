@@ -1,4 +1,4 @@
-use Rattle.std.proofs.Common.{rules, ◌≡◌, ◌↔◌, ℕ, ◌+◌, eqb, IsTrue, slice_index, refl, arith}
+use Rattle.std.proofs.Common.{rules, ◌≡◌, ◌+◌, slice_index, arith}
 use Rattle.std.proofs.lemmas.Result.{err_from_is_err_and}
 use Rattle.lts.specs.Lts.{system_of}
 use Rattle.quotient.proofs.Visits.{compared_keeps, rounds_keep}
