@@ -46,7 +46,8 @@ with_labels_of-requires g c = let goals = goal.at.with_labels_of-requires g c in
 pub returns-clause-quotient : goal.returns-clause-quotient
 returns-clause-quotient g c = let goals = goal.at.returns-clause-quotient g c in
     let shown = rw c.new-rows.ensures at c.in_ok-shown.ensures.shown in
-    IfOk-weaker c.with_labels_of.result _ _ (built (is g goals.After-new-rows) _ shown c.in_ok-shown.ensures.once) (rw (counted g goals.After-len) at c.with_labels_of.ensures)
+    IfOk-weaker c.with_labels_of.result _ _ (built (is g goals.After-new-rows) _ shown c.in_ok-shown.ensures.once)
+    (rw (counted g goals.After-len) at c.with_labels_of.ensures)
 
 pub returns-clause-fewer_transitions : goal.returns-clause-fewer_transitions
 returns-clause-fewer_transitions g c =

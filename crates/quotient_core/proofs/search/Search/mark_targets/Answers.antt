@@ -43,8 +43,8 @@ loop-k-preserved g c = let at = (goal.at.loop-k-preserved g c).In_ok-mark in
     record {
       search = Searches-step marks (below g at) _ c.args.s (led_to g at) c.loop-k.invariant.search;
       read = λ j low high.
-          let mark = mark_at marks (below g at) (target_of (place_at places j)) in
-          grind (arith, cases_eq j c.loop-k.k, c.loop-k.invariant.read j, mark, c.edge-target.ensures.target, low, high);
+          let now = mark_at marks (below g at) (target_of (place_at places j)) in
+          grind (arith, cases_eq j c.loop-k.k, c.loop-k.invariant.read j, now, c.edge-target.ensures.target, low, high);
       states = omega (arith, states_ahead-marks marks (below g at), c.loop-k.invariant.states);
       places = places_ahead-marks marks (below g at) places ∙ c.loop-k.invariant.places;
       visits = let range = c.loop-k.auto.k in search rules;
