@@ -32,32 +32,18 @@ module _ (a b u : Grouped) (same : system_of u ≡ union_of (system_of a) (syste
   abbrev pub both : ℕ
   both = length a.places + length b.places
 
-  few : r ≤ a.states + b.states
-  few = omega (arith, low, ap (λ s. s.states) same)
-
   all : r * length u.places ≡ r * both
   all = ap (λ m. r * m) places
     where
       places : length u.places ≡ length a.places + length b.places
-      places =
-          search (
-            rules,
-            length-map,
-            u.places,
-            u.labels,
-            a.places,
-            a.labels,
-            b.places,
-            b.labels,
-            a.states,
-            length-append,
-          )
+      places = let e = ap (λ s. length s.transitions) same in search (rules, e, length-map, length-append)
 
   -- The number of rounds and the number of visits (counted reads of transitions) of a comparison are at most the upper
   -- bounds for a comparison. This holds even if the refinement fails.
   pub compared_keeps : (visits least : ℕ) → Costs mid at r visits (r * length u.places) → least ≤ both + visits →
       StaysWithin (a.states + b.states) both union_passes at least
-  compared_keeps visits least turns low = search (rules, few, all)
+  compared_keeps visits least turns more =
+      let few : r ≤ a.states + b.states = omega (arith, low, ap (λ s. s.states) same) in search (rules, few, all)
 
   -- If the refinement succeeds, the number of visits (counted reads of transitions) is exactly (r + 1) * m. Here, r is
   -- the number of rounds, and m is the number of transitions of both systems together.

@@ -13,9 +13,8 @@ use Rattle.theory.specs.System.{System, IsSystem, Reachable}
 use Rattle.theory.specs.Bisimulation.{Bisimilar}
 use Rattle.theory.specs.declared.relation.Relation.{Relation}
 use Rattle.theory.specs.Blocks.{EachTwo}
-use Rattle.theory.specs.Quotient.{HowMany, Leader, IsLeader, Number}
-use Rattle.quotient_core.specs.Numbers.{IsMarked, IsNumbering, begins_class, TakesState}
-use Rattle.quotient_core.specs.declared.numbering.Numbering.{Numbering}
+use Rattle.theory.specs.Quotient.{HowMany, Fellow, Leader, IsLeader, Number}
+use Rattle.quotient_core.specs.Numbers.{begins_class, TakesState}
 use Rattle.quotient_core.specs.declared.numbering.Numbers.{Numbers}
 use Rattle.quotient_core.specs.declared.numbering.TheConstants.{NONE}
 use Rattle.theory.proofs.CallerLemmas.{is_leader_itself}
@@ -56,19 +55,11 @@ module _ {b : ℕ} {reached : Bool} {old new : Numbers} (takes : TakesState b re
 
   -- Suppose that a state has just been given its class number (the quotient state that represents it). Each class in
   -- the list of classes either was in this list before, or is the class of this state.
-  class_at : (i : ℕ) → i < length new.classes.items → ((i < length old.classes.items)
+  pub class_at : (i : ℕ) → i < length new.classes.items → ((i < length old.classes.items)
       × (slice_index new.classes.items i ≡ slice_index old.classes.items i))
       ⊎ ((begins_class b reached old ≡ true) × (i ≡ length old.classes.items) × (slice_index new.classes.items i ≡ b))
   class_at i l =
       grind (arith, TakesState-classes, at_push old.classes.items b i, length_push old.classes.items b)
-
-  -- Suppose that the block ID b and the block IDs of all classes are less than the number of blocks. When a state of
-  -- the block b has been given its class number (the quotient state that represents it), the block IDs of all classes
-  -- are still less than the number of blocks.
-  pub TakesState-below : (blocks : ℕ) → b < blocks → ((i : ℕ) → i < length old.classes.items →
-      slice_index old.classes.items i < blocks) → (i : ℕ) → i < length new.classes.items →
-      slice_index new.classes.items i < blocks
-  TakesState-below blocks low each i l = grind (arith, class_at i l, each i, low)
 
 -- `Other` holds if the state m is the leader of its class, which is the state that represents this class, if m is less
 -- than s, and if m is not the first state.
@@ -81,7 +72,6 @@ Other rel A s m = IsLeader rel A m × (m < s) × (m ≢ A.first)
 pub record Laws (rel : Relation) (A : System) (block : ℕ → ℕ) : Type 0 where
   pub same : EachTwo A (λ s t. (block s ≡ block t) ↔ Bisimilar rel A s A t)
   pub system : IsSystem A
-  pub first_reached : Reachable A A.first
   pub below : (s : ℕ) → Reachable A s → s < A.states
   pub number : (s : ℕ) → Reachable A s → (n : ℕ) × Number rel A s n
   pub classes : (s t m n : ℕ) → Reachable A s → Reachable A t → Number rel A s m → Number rel A t n →
@@ -148,20 +138,14 @@ module _ (rel : Relation) (A : System) (block : ℕ → ℕ) (laws : Laws rel A 
 
       -- The state s is the leader of its class, which is the state that represents this class.
       leads : Leader rel A s s
-      leads = inr (
-        λ b. apart (sym ((share s A.first begun.0 laws.first_reached).1 b)),
-        (
-          (begun.0, (share s s begun.0 begun.0).0 refl),
-          λ k fellow. elim (cases_lt k s) [
-            | inl l ↦ absurd ((h.seen k l fellow.0).1 (ap (slice_index old.by_block.items)
-                (sym ((share s k begun.0 fellow.0).1 fellow.1)) ∙ begun.1))
-            | inr l ↦ l
-          ],
-        ),
-      )
-
-      number : Number rel A s count
-      number = (s, leads, inr (other, h.counted.0, h.counted.1, h.counted.2))
+      leads =
+          let least = λ (k : ℕ) (fellow : Fellow rel A s k).
+          let same = (share s k begun.0 fellow.0).1 fellow.1 in
+          let seen = λ (l : k < s). (h.seen k l fellow.0).1 in
+          let low : s ≤ k = grind (arith, cases_lt k s, seen, ap (slice_index old.by_block.items) same, begun.1) in
+          low in
+          let own = (share s s begun.0 begun.0).0 refl in
+          inr (λ b. apart (sym ((share s A.first begun.0 ([], refl)).1 b)), ((begun.0, own), least))
 
     -- Suppose that the block of the state s already has a class number, which is the quotient state for this block.
     -- Then s is not the leader of its class (the state that represents this class), unless s is the first state of the
@@ -182,53 +166,10 @@ module _ (rel : Relation) (A : System) (block : ℕ → ℕ) (laws : Laws rel A 
     at : (t : ℕ) → ((number_at block new t ≡ number_at block old t) × (block t ≡ block s →
         begins_class (block s) reached old ≡ false)) ⊎ ((begins_class (block s) reached old ≡ true)
         × (block t ≡ block s) × (number_at block old t ≡ NONE) × (number_at block new t ≡ count))
-    at t = rw takes.by_block (elim (at_put old.by_block.items (block s) (block t) count
-        (begins_class (block s) reached old) within) [
-          | inl same ↦ inl same
-          | inr (begins, e, is) ↦ inr (begins, e, ap (slice_index old.by_block.items) e ∙ (begun begins).1, is)
-        ])
-
-    -- A class number is the quotient state for a class. Suppose that the state t is s, or was given its class number
-    -- before s. Then the class number of t is the class number of its block.
-    seen : (t : ℕ) → t < s + 1 → Reachable A t →
-        (slice_index new.numbers.items t ≡ number_at block new t) × (number_at block new t ≢ NONE)
-    seen t l path = rw takes.numbers (elim (at_push old.numbers.items (number_at block new s) t
-        (omega (arith, l, h.numbers_long))) [
-          | inl (less, is) ↦
-              let had = h.seen t (omega (arith, less, h.numbers_long)) path in
-              elim (at t) [
-                | inl (same, _) ↦ (is ∙ had.0 ∙ sym same, λ none. had.1 (sym same ∙ none))
-                | inr (_, _, was, _) ↦ absurd (had.1 was)
-              ]
-          | inr (end, is) ↦
-              let e : t ≡ s = end ∙ h.numbers_long in (
-                is ∙ ap (number_at block new) (sym e),
-                λ none. elim (at t) [
-                  | inl (same, joins) ↦ both_ways _ (joins (ap block e)) (and_from reached _
-                      (is_reached.1 (subst (Reachable A) e path))
-                      (eq-eqb _ _ (ap (number_at block old) (sym e) ∙ sym same ∙ none)))
-                  | inr (_, _, _, now) ↦ absurd (omega (arith, now, none, few, low))
-                ],
-              )
-        ])
-
-    numbered : (t : ℕ) → t < A.states → number_at block new t ≢ NONE →
-        (number_at block new t < length new.classes.items)
-        × ((u : ℕ) → Reachable A u → block u ≡ block t → Number rel A u (number_at block new t))
-    numbered t l some = elim (at t) [
-      | inl (is, _) ↦ let had = h.numbered t l (λ none. some (is ∙ none)) in
-          rw is (omega (arith, had.0, (TakesState-room takes).1), had.1)
-      | inr (begins, e, _, is) ↦ rw is (
-        omega (arith, ap length (rw begins at takes.classes), length_push old.classes.items (block s)),
-        λ u way to. number_shared s u count (begun begins).0 way (sym (to ∙ e)) (number begins),
-      )
-    ]
-
-    classes : (t i : ℕ) → t < A.states → i < length new.classes.items →
-        (slice_index new.classes.items i ≡ block t) ↔ (number_at block new t ≡ i)
-    classes t i l below =
-        let less = λ (some : number_at block old t ≢ NONE). (h.numbered t l some).0 in
-        grind (arith, h.classes t i l, at t, class_at takes i below, less, few, low)
+    at t =
+        let put = at_put old.by_block.items (block s) (block t) count (begins_class (block s) reached old) within in
+        let none = λ (begins : begins_class (block s) reached old ≡ true). (begun begins).1 in
+        rw takes.by_block (grind (arith, nat_tests, put, none))
 
     -- If the invariant of the loop (`Taken`) holds before the state s is given its class number (the quotient state
     -- that represents it), then the invariant also holds afterwards.
@@ -236,15 +177,28 @@ module _ (rel : Relation) (A : System) (block : ℕ → ℕ) (laws : Laws rel A 
     Taken-adds = record {
       numbers_long = rw takes.numbers (omega (arith, length_push {X = ℕ}, h.numbers_long));
       first = grind (arith, at A.first, h.first);
-      seen = seen;
-      numbered = numbered;
-      classes = classes;
+      seen = λ t l path.
+          let own = λ (e : t ≡ s). is_reached.1 (subst (Reachable A) e path) in
+          let before = λ (e : t < s). h.seen t e path in
+          let put = at_push old.numbers.items (number_at block new s) t in
+          rw takes.numbers (grind (arith, nat_tests, put, h.numbers_long, before, at t, own, few, low, l));
+      numbered = λ t l some. elim (at t) [
+        | inl (is, _) ↦ let had = h.numbered t l (λ none. some (is ∙ none)) in
+            rw is (omega (arith, had.0, (TakesState-room takes).1), had.1)
+        | inr (begins, e, _, is) ↦ rw is (
+          omega (arith, ap length (rw begins at takes.classes), length_push old.classes.items (block s)),
+          λ u way to. number_shared s u count (begun begins).0 way (sym (to ∙ e))
+              (s, leads begins, inr (other begins, h.counted.0, h.counted.1, h.counted.2)),
+        )
+      ];
+      classes = λ t i l below.
+          let less = λ (some : number_at block old t ≢ NONE). (h.numbered t l some).0 in
+          grind (arith, h.classes t i l, at t, class_at takes i below, less, few, low);
       counted = elim (TakesState-classes takes) [
         | inl (joins, e) ↦ (
           h.counted.0,
           laws.kept s h.counted.0 (not_other joins) h.counted.1,
-          ap length e
-              ∙ h.counted.2,
+          ap length e ∙ h.counted.2,
         )
         | inr (begins, e) ↦ (
           h.counted.0 + 1,
@@ -252,11 +206,8 @@ module _ (rel : Relation) (A : System) (block : ℕ → ℕ) (laws : Laws rel A 
           omega (arith, ap length e, length_push old.classes.items (block s), h.counted.2),
         )
       ];
-      fewer = λ l. elim (TakesState-classes takes) [
-        | inl (_, e) ↦ omega (arith, ap length e)
-        | inr (begins, e) ↦ let d = other begins in
-            omega (arith, ap length e, length_push old.classes.items (block s), h.fewer (omega (arith, l, d)))
-      ];
+      fewer = λ l.
+          grind (arith, TakesState-classes takes, length_push old.classes.items (block s), h.fewer, other, l);
     }
 
   -- A class number is the quotient state for a class. The invariant of the loop (`Taken`) holds before any state is
@@ -271,9 +222,9 @@ module _ (rel : Relation) (A : System) (block : ℕ → ℕ) (laws : Laws rel A 
     numbered = λ t l some. elim (at t l) [
       | inl (e, is) ↦ rw is (
         omega (arith, ap length classes),
-        λ u way to. number_shared A.first u 0 laws.first_reached way (sym (to ∙ e)) (
+        λ u way to. number_shared A.first u 0 ([], refl) way (sym (to ∙ e)) (
           A.first,
-          inl ((share A.first A.first laws.first_reached laws.first_reached).0 refl, refl),
+          inl ((share A.first A.first ([], refl) ([], refl)).0 refl, refl),
           inl (refl, refl),
         ),
       )
@@ -292,31 +243,3 @@ module _ (rel : Relation) (A : System) (block : ℕ → ℕ) (laws : Laws rel A 
           let put = at_put (replicate count NONE) (block A.first) (block t) 0 true
           (omega (arith, room, length-replicate {A = ℕ})) in
           rw by_block (grind (arith, put, blank, cases_eq (block t) (block A.first)))
-
--- Suppose that the invariant of the loop (`Taken`) holds after all states have been given their class numbers. Then the
--- class number of each reachable state is the quotient state that represents it.
-pub Taken-end : (rel : Relation) (A : System) (made : Numbering) (n : Numbers) →
-    Laws rel A (slice_index made.blocks.block_ids) →
-    length made.blocks.block_ids ≡ A.states → length made.reached.items ≡ A.states →
-    ((i : ℕ) → i < length made.classes.items → slice_index made.classes.items i < made.blocks.count) →
-    ((s : ℕ) → IsMarked made.reached.items s ↔ Reachable A s) →
-    Taken rel A (slice_index made.blocks.block_ids) A.states
-    (record n { numbers = made.numbers; classes = made.classes }) →
-    IsNumbering rel A made
-Taken-end rel A made n laws blocks_long reached_long classes_below reached h =
-    let seen = λ (s : ℕ) (way : Reachable A s). h.seen s (laws.below s way) way in
-    let numbered = λ (s : ℕ) (way : Reachable A s). h.numbered s (laws.below s way) (seen s way).1 in
-    record {
-      fits = record {
-        blocks_long = blocks_long;
-        reached_long = reached_long;
-        numbers_long = h.numbers_long;
-        classes_below = classes_below;
-        below = λ s m. let way = (reached s).0 m in rw (seen s way).0 (numbered s way).0;
-        class = λ s i m. let way = (reached s).0 m in rw (seen s way).0 (h.classes s i (laws.below s way));
-      };
-      reached = reached;
-      number = λ s way. rw (seen s way).0 ((numbered s way).1 s way refl);
-      counted = rw h.counted.2 (laws.all h.counted.0 h.counted.1);
-      few = h.fewer laws.system.first;
-    }

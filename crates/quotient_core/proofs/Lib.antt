@@ -1,5 +1,3 @@
--- Lemmas about sorted lists.
-pub mod Repeats
 -- Lemmas about the number of visits, which are counted reads of transitions.
 pub mod Visits
 -- Lemmas about the search for the reachable states.

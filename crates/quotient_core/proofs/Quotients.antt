@@ -5,14 +5,14 @@
 -- theorem. If no transition of a state is left out, then each quotient transition of another state with the same class
 -- number is also a quotient transition of this state.
 use Rattle.std.proofs.Common.{rules, ◌≡◌, ◌≢◌, ◌∙◌, ◌↔◌, ℕ, ◌<◌, ◌≤◌, true, not, Option, None, Some, List, length, map}
-use Rattle.std.proofs.Common.{get_or, Contains, IsPermutation, refl, sym, ap, subst, arith}
+use Rattle.std.proofs.Common.{[], get_or, Contains, IsPermutation, refl, sym, ap, subst, arith}
 use Rattle.std.specs.List.{AllPairs}
 use Rattle.std.proofs.lemmas.Bool.{eq-eqb, both_ways, false_from_ne_true}
 use Rattle.std.proofs.lemmas.List.{length-map, get_or-map, get_or_default}
 use Rattle.std.proofs.lemmas.List.Elements.{All-contains, Contains-get_or}
 use Rattle.std.proofs.lemmas.List.Filters.{length-filter_both}
 use Rattle.std.proofs.lemmas.List.Sorted.{IsPermutation-map, IsPermutation-sym}
-use Rattle.theory.specs.System.{System, Transition, Step, Reachable}
+use Rattle.theory.specs.System.{System, AnyStep, Step, Reachable}
 use Rattle.theory.specs.Bisimulation.{Bisimilar}
 use Rattle.theory.specs.declared.relation.Relation.{Relation}
 use Rattle.theory.specs.declared.relation.Relation.TheVariants.{Strong, Branching}
@@ -22,11 +22,11 @@ use Rattle.lts.specs.Lts.{Triple, source_of, label_of, target_of, row_of, transi
 use Rattle.lts.specs.Lts.{IsTriple, InRange, IsLts, Grouped, IsBuilt}
 use Rattle.quotient_core.specs.Numbers.{IsNumbering}
 use Rattle.quotient_core.specs.Triples.{Numbered, number_of, between_numbers, is_left_out, shown_by, is_reached}
-use Rattle.quotient_core.specs.Triples.{HasShown, IsDroppedLabel, LeavesNothingOut, ShowEachOther}
+use Rattle.quotient_core.specs.Triples.{HasShown, IsDroppedLabel, ShowEachOther}
 use Rattle.quotient_core.specs.declared.numbering.Numbering.{Numbering}
-use Rattle.theory.proofs.CallerLemmas.{quotient_reordered}
+use Rattle.theory.proofs.CallerLemmas.{leads_on, quotient_reordered}
 use Rattle.lts.proofs.CallerLemmas.{contains_mapped, mapped_contains, contains_passing}
-use Rattle.quotient_core.proofs.Showing.{ShownPlace, place_of, shown_place}
+use Rattle.quotient_core.proofs.Showing.{place_of, shown_place}
 
 -- If the triples of a list are pairwise different, and the label table has their label IDs, then the transitions that
 -- these triples denote are pairwise different.
@@ -66,9 +66,6 @@ pub record IsNumbered (rel : Relation) (g : Grouped) (n : Numbering) (dropped : 
   pub numbering : IsNumbering rel (system_of g) n
   pub drops : IsDroppedLabel rel g.labels dropped
   pub lts : IsLts g
-  pub reached_first : Reachable (system_of g) g.first
-  pub reached_on : (s : ℕ) (a : List ℕ) (t : ℕ) → Reachable (system_of g) s → Step (system_of g) s a t →
-      Reachable (system_of g) t
   pub one_number : (s m n : ℕ) → Number rel (system_of g) s m → Number rel (system_of g) s n → m ≡ n
   pub classes : (s t m n : ℕ) → Reachable (system_of g) s → Reachable (system_of g) t →
       Number rel (system_of g) s m → Number rel (system_of g) t n →
@@ -97,22 +94,10 @@ module _ {rel : Relation} {g : Grouped} {n : Numbering} {dropped : Option ℕ} (
   in_range s e c = All-contains (IsTriple (length g.labels) g.states) g.places e is.lts.in_range.each
       ((is.sources s g.places e).0 c).0
 
-  -- Each transition in the row of the state s, which is the list of its transitions, is a step of the system from s. If
-  -- s is reachable, then the target of this transition is reachable.
-  step_of : (s : ℕ) (e : Triple) → Contains (row_of s g.places) e →
-      Step A s (text_of g.labels (label_of e)) (target_of e)
-  step_of s e c = (is.steps s (text_of g.labels (label_of e)) (target_of e)).1 (e, c, refl, refl)
-
+  -- If the state s is reachable, then the target of each transition in the row of s, which is the list of its
+  -- transitions, is reachable.
   way_on : (s : ℕ) (e : Triple) → Contains (row_of s g.places) e → Reachable A s → Reachable A (target_of e)
-  way_on s e c way = is.reached_on s (text_of g.labels (label_of e)) (target_of e) way (step_of s e c)
-
-  -- For each transition, the program makes a triple with the label ID of the transition, and with the class numbers
-  -- (the quotient states) of its source and its target. The program leaves out this triple if and only if the quotient
-  -- drops the transition that the triple denotes.
-  out_is : (s : ℕ) (e : Triple) → Contains (row_of s g.places) e
-      → (is_left_out dropped (between_numbers rows s e) ≡ true)
-      ↔ IsDropped rel (transition_of g.labels (between_numbers rows s e))
-  out_is s e c = left_out_is rel g.labels dropped is.lts.table is.drops _ (in_range s e c).label
+  way_on s e c way = leads_on (AnyStep A) g.first s (target_of e) way (_, (is.steps s _ _).1 (e, c, refl, refl))
 
   module _ (es : List Triple) (shown : HasShown rows (is_reached rows) es) (once : AllPairs (λ x y. x ≢ y) es) where
     -- If the source and the target of a transition are replaced by the quotient states that represent them, the result
@@ -125,57 +110,25 @@ module _ {rel : Relation} {g : Grouped} {n : Numbering} {dropped : Option ℕ} (
     each_is x c =
         let (s, m, d) = (shown.exactly x).0 c in
         let way = (is.numbering.reached s).0 m in
-        let from : ShownPlace rows s x = place_of rows s x d in
-        let e = from.place in
-        let on = way_on s e from.in_row way in
-        let below = λ (t : ℕ) (w : Reachable A t). is.numbering.fits.below t ((is.numbering.reached t).1 w) in
+        let (e, in_row, from, stays) = place_of rows s x d in
+        let on = way_on s e in_row way in
+        let out =
+        left_out_is rel g.labels dropped is.lts.table is.drops (between_numbers rows s e) (in_range s e in_row).label in
+        let below = λ (t : ℕ) (w : Reachable A t). is.numbering.numbered.below t ((is.numbering.reached t).1 w) in
         let number = is.numbering.number in
-        rw (← from.is) (
-          record { source = below s way; label = (in_range s e from.in_row).label; target = below (target_of e) on },
-          (s, target_of e, way, step_of s e from.in_row, number s way, number (target_of e) on),
-          λ gone. both_ways _ from.stays ((out_is s e from.in_row).1 gone),
+        rw (← from) (
+          record { source = below s way; label = (in_range s e in_row).label; target = below (target_of e) on },
+          (s, target_of e, way, (is.steps s _ _).1 (e, in_row, refl, refl), number s way, number (target_of e) on),
+          λ gone. both_ways _ stays (out.1 gone),
         )
-
-    -- If the source and the target of a transition are replaced by the quotient states that represent them, the result
-    -- is a quotient transition of the original source, unless the quotient leaves the result out. Let the list `es`
-    -- have exactly the quotient transitions of all reachable states. Suppose that a transition e between quotient
-    -- states comes from a step of a reachable state, and that the quotient does not drop e. Then `es` has a triple for
-    -- e.
-    all_are : (e : Transition) → IsQuotientStep rel A e → ¬ IsDropped rel e
-        → Contains (map (transition_of g.labels) es) e
-    all_are e (s, t, way, step, hs, ht) stays =
-        let (f, in_row, label, to) = (is.steps s e.label t).0 step in
-        let on : Reachable A t = is.reached_on s e.label t way step in
-        let source : number_of rows s ≡ e.source = is.one_number s _ _ (is.numbering.number s way) hs in
-        let target : number_of rows (target_of f) ≡ e.target =
-        ap (number_of rows) to ∙ is.one_number t _ _ (is.numbering.number t on) ht in
-        let same : transition_of g.labels (between_numbers rows s f) ≡ e =
-        λ i. record { source = source i; label = label i; target = target i } in
-        let place = shown_place rows s f in_row (false_from_ne_true _
-        (λ gone. stays (subst (IsDropped rel) same ((out_is s f in_row).0 gone)))) in
-        subst (Contains (map (transition_of g.labels) es)) same (contains_mapped (transition_of g.labels) es _
-        ((shown.exactly (between_numbers rows s f)).1 (s, (is.numbering.reached s).1 way, place)))
-
-    quotient_of : Quotient rel A (system_from 0 count g.labels es)
-    quotient_of = record {
-      states = is.numbering.counted;
-      first = refl;
-      transitions = λ e. (
-        λ c.
-            let x = mapped_contains (transition_of g.labels) es e c in
-            let is = each_is x.0 x.1 in subst (λ f. IsQuotientStep rel A f × ¬ IsDropped rel f) x.2 (is.1, is.2),
-        λ h. all_are e h.0 h.1,
-      );
-      once = transitions_differ g.labels es is.lts.table (λ x c. (each_is x c).0.label) once;
-    }
 
     -- If the source and the target of a transition are replaced by the quotient states that represent them, the result
     -- is a quotient transition of the original source, unless the quotient leaves the result out. Let the list `es`
     -- have exactly the quotient transitions of all reachable states. If the length of `es` is at most the number of
     -- transitions of the given system, then `es` satisfies the limits on the size of a system (`InRange`).
     pub quotient_in_range : length es ≤ length g.places → InRange (length g.labels) 0 count es
-    quotient_in_range few = let some = is.numbering.fits.below g.first
-        ((is.numbering.reached g.first).1 is.reached_first) in record {
+    quotient_in_range few = let some = is.numbering.numbered.below g.first
+        ((is.numbering.reached g.first).1 ([], refl)) in record {
           first_below = omega (arith, some);
           few_states = omega (arith, is.numbering.few, is.lts.in_range.few_states);
           few_transitions = omega (arith, few, is.lts.in_range.few_transitions);
@@ -189,9 +142,34 @@ module _ {rel : Relation} {g : Grouped} {n : Numbering} {dropped : Option ℕ} (
     pub built : (q : Grouped) → IsBuilt 0 count g.labels es q → Quotient rel A (system_of q)
     built q made =
         let moved = IsPermutation-sym _ _ (IsPermutation-map (transition_of g.labels) es q.places made.grouping.same) in
+        let quotient : Quotient rel A (system_from 0 count g.labels es) = record {
+          states = is.numbering.counted;
+          first = refl;
+          transitions = λ e. (
+            λ c.
+                let x = mapped_contains (transition_of g.labels) es e c in
+                let is = each_is x.0 x.1 in subst (λ f. IsQuotientStep rel A f × ¬ IsDropped rel f) x.2 (is.1, is.2),
+            λ h.
+                let ((s, t, way, step, hs, ht), stays) = h in
+                let (f, in_row, label, to) = (is.steps s e.label t).0 step in
+                let on : Reachable A t = leads_on (AnyStep A) g.first s t way (e.label, step) in
+                let source : number_of rows s ≡ e.source = is.one_number s _ _ (is.numbering.number s way) hs in
+                let target : number_of rows (target_of f) ≡ e.target =
+                ap (number_of rows) to ∙ is.one_number t _ _ (is.numbering.number t on) ht in
+                let same : transition_of g.labels (between_numbers rows s f) ≡ e =
+                λ i. record { source = source i; label = label i; target = target i } in
+                let out = left_out_is rel g.labels dropped is.lts.table is.drops (between_numbers rows s f)
+                (in_range s f in_row).label in
+                let place = shown_place rows s f in_row (false_from_ne_true _
+                (λ gone. stays (subst (IsDropped rel) same (out.0 gone)))) in
+                subst (Contains (map (transition_of g.labels) es)) same (contains_mapped (transition_of g.labels) es _
+                ((shown.exactly (between_numbers rows s f)).1 (s, (is.numbering.reached s).1 way, place))),
+          );
+          once = transitions_differ g.labels es is.lts.table (λ x c. (each_is x c).0.label) once;
+        } in
         quotient_reordered rel A (system_from 0 count g.labels es) (system_of q) made.first made.states
         (subst (λ t. IsPermutation (map (transition_of t) q.places) (map (transition_of g.labels) es)) (sym made.labels)
-        moved) quotient_of
+        moved) quotient
 
   -- Two reachable states have the same class number, which is the quotient state that represents them, if and only if
   -- they are bisimilar.
@@ -204,20 +182,9 @@ module _ {rel : Relation} {g : Grouped} {n : Numbering} {dropped : Option ℕ} (
       (text_of g.labels (label_of e)) (target_of e)
   inert_is s e way c = let inert = dropped_is rel A g.labels (between_numbers rows s e) s (target_of e)
       (same_is s (target_of e) way (way_on s e c way)) in
-      (λ out. inert.0 ((out_is s e c).0 out), λ nothing. (out_is s e c).1 (inert.1 nothing))
-
-  -- Suppose that the quotient leaves out no transition of the reachable state s. Then no transition of s is inert.
-  none_inert : (s : ℕ) → Reachable A s → LeavesNothingOut rows s → (b : List ℕ) (v : ℕ) → Step A s b v →
-      ¬ ShowsNothing rel A s b v
-  none_inert s way whole b v own inert =
-      let (e, c, label, to) = (is.steps s b v).0 own in
-      let row = row_of s g.places in
-      let triples : List Triple = map (between_numbers rows s) row in
-      let out = λ (x : Triple). is_left_out dropped x in
-      let found = contains_passing out triples (between_numbers rows s e)
-      (contains_mapped (between_numbers rows s) row e c) ((inert_is s e way c).1 (rw (label, to) inert)) in
-      let counts = length-filter_both out (λ x. not (out x)) (λ x. refl) triples in
-      absurd (omega (arith, counts, whole, length-map row (between_numbers rows s), found.1))
+      let x = between_numbers rows s e in
+      let out = left_out_is rel g.labels dropped is.lts.table is.drops x (in_range s e c).label in
+      (λ gone. inert.0 (out.0 gone), λ nothing. out.1 (inert.1 nothing))
 
   -- If the source and the target of a transition are replaced by the quotient states that represent them, the result is
   -- a quotient transition of the original source, unless the quotient leaves the result out. Suppose that the same
@@ -227,15 +194,23 @@ module _ {rel : Relation} {g : Grouped} {n : Numbering} {dropped : Option ℕ} (
   show_each_other s t ms mt same whole x c =
       let ws = (is.numbering.reached s).0 ms in
       let wt = (is.numbering.reached t).0 mt in
-      let from : ShownPlace rows t x = place_of rows t x c in
-      let e = from.place in
+      let row = row_of s g.places in
+      let triples : List Triple = map (between_numbers rows s) row in
+      let out = λ (x : Triple). is_left_out dropped x in
+      let none : (b : List ℕ) (v : ℕ) → Step A s b v → ¬ ShowsNothing rel A s b v = λ b v own inert.
+      let (e, d, label, to) = (is.steps s b v).0 own in
+      let found = contains_passing out triples (between_numbers rows s e)
+      (contains_mapped (between_numbers rows s) row e d) ((inert_is s e ws d).1 (rw (label, to) inert)) in
+      let counts = length-filter_both out (λ x. not (out x)) (λ x. refl) triples in
+      absurd (omega (arith, counts, whole, length-map row (between_numbers rows s), found.1)) in
+      let (e, there, from, stays) = place_of rows t x c in
       let a = text_of g.labels (label_of e) in
-      let (u, step, alike) = is.shows_all s t a (target_of e) ((same_is s t ws wt).0 same) (none_inert s ws whole)
-      (step_of t e from.in_row) (λ inert. both_ways _ from.stays ((inert_is t e wt from.in_row).1 inert)) in
+      let (u, step, alike) = is.shows_all s t a (target_of e) ((same_is s t ws wt).0 same) none
+      ((is.steps t _ _).1 (e, there, refl, refl)) (λ inert. both_ways _ stays ((inert_is t e wt there).1 inert)) in
       let (f, in_row, text, ends) = (is.steps s a u).0 step in
       let target : number_of rows (target_of f) ≡ number_of rows (target_of e) = ap (number_of rows) ends
-      ∙ sym ((same_is (target_of e) u (way_on t e from.in_row wt) (is.reached_on s a u ws step)).1 alike) in
+      ∙ sym ((same_is (target_of e) u (way_on t e there wt) (leads_on (AnyStep A) g.first s u ws (a, step))).1 alike) in
       let label : label_of f ≡ label_of e = is.lts.table.different (label_of f) (label_of e)
-      (in_range s f in_row).label (in_range t e from.in_row).label text in
+      (in_range s f in_row).label (in_range t e there).label text in
       let shown : between_numbers rows s f ≡ between_numbers rows t e = λ i. (same i, label i, target i) in
-      subst (Contains (shown_by rows s)) (shown ∙ from.is) (shown_place rows s f in_row (rw shown from.stays))
+      subst (Contains (shown_by rows s)) (shown ∙ from) (shown_place rows s f in_row (rw shown stays))

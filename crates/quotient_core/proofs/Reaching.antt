@@ -2,7 +2,7 @@
 -- a state, the set of marked states changes. The set of transitions that are still to be read changes too.
 use Rattle.std.proofs.lemmas.List.{get_or_default, get_or-set_same, get_or-set_other, length-replicate, get_or_past}
 use Rattle.std.proofs.lemmas.List.{length_push, length-set, append-nil}
-use Rattle.std.proofs.Common.{◌≢◌, sum_by, ap, ◌≡◌, ◌⊎◌, ◌↔◌, ℕ, ◌+◌, ◌<◌, ◌≤◌, Bool, true, false, cond, not, ◌&&◌, eqb}
+use Rattle.std.proofs.Common.{◌≢◌, sum_by, ap, ◌≡◌, ◌⊎◌, ℕ, ◌+◌, ◌<◌, ◌≤◌, Bool, true, false, cond, not, ◌&&◌, eqb}
 use Rattle.std.proofs.Common.{ltb, List, [], ◌∷◌, ◌++◌, length, get_or, set, replicate, Contains, inl, inr, arith}
 use Rattle.std.proofs.Common.{rules}
 use Rattle.std.proofs.lemmas.Grind.{common_steps}
@@ -13,17 +13,17 @@ use Rattle.std.proofs.lemmas.List.Sums.{sum_by_push, sum_by-set}
 use Rattle.theory.specs.System.{Step, Reachable}
 use Rattle.theory.proofs.CallerLemmas.{contains_here, contains_there, contains_cases, contains_none}
 use Rattle.lts.specs.Lts.{Triple, row_of, Grouped, system_of}
-use Rattle.lts.specs.Meter.{Counts, HasRoomFor, Costs}
+use Rattle.lts.specs.Meter.{Counts, Costs}
 use Rattle.quotient_core.specs.Numbers.{IsMarked}
 use Rattle.quotient_core.specs.Search.{MarksState, Searches, ReadsOnce, is_ahead, states_ahead, places_ahead}
 use Rattle.quotient_core.specs.Triples.{rows_of}
 use Rattle.quotient_core.specs.declared.search.Search.{Search}
-use Rattle.quotient_core.proofs.Visits.{visits_then, room_after, rows_part, rows_few}
+use Rattle.quotient_core.proofs.Visits.{visits_then, rows_part, rows_few}
 
 -- `Follows` holds if the following is true for each marked state u that is less than `next` and is not in the queue
 -- `waiting`: each state v to which R leads from u, with any label a, is marked. The search scans the states in the
 -- order of their numbers, and has already passed all states that are less than `next`.
-abbrev Follows : (ℕ → List ℕ → ℕ → Type 0) → List Bool → ℕ → List ℕ → Type 0
+abbrev pub Follows : (ℕ → List ℕ → ℕ → Type 0) → List Bool → ℕ → List ℕ → Type 0
 Follows R marked next waiting =
     (u v : ℕ) (a : List ℕ) → u < next → IsMarked marked u → R u a v → Contains waiting u ⊎ IsMarked marked v
 
@@ -36,56 +36,33 @@ marked_below states marked s size m = search (rules, both_ways, get_or_past)
 pub ReadsOnce-first : (g : Grouped) (at : Counts) → g.first < g.states → Reachable (system_of g) g.first →
     ReadsOnce g (set (replicate g.states false) g.first true) 0 [] at at
 ReadsOnce-first g at below reached = record {
-  search = search (rules, length-replicate, both_ways, none_marked, get_or-set_other, contains_none);
+  search =
+      let none : (s : ℕ) → get_or (replicate g.states false) s false ≡ false = λ s. grind (arith, common_steps) in
+      search (rules, length-replicate, both_ways, none, get_or-set_other, contains_none);
   few = omega (arith, rows_few (is_ahead 0 (set (replicate g.states false) g.first true)) g.places);
   visits = search rules;
 }
-  where
-    none_marked : (n s : ℕ) → get_or (replicate n false) s false ≡ false
-    none_marked n s = grind (arith, common_steps)
 
 -- The search scans the states in the order of their numbers. The following lemmas are about the step in which the
 -- search marks a state t. If t was not marked before, and the scan has already passed t, then the search puts t into
 -- the queue.
 module _ {t next : ℕ} {old new : Search} (marks : MarksState t next old new) (l : t < length old.marked.items) where
   -- When the state t is marked, the marks of all other states stay the same.
-  mark_at : (u : ℕ) → ((u ≡ t) × (get_or new.marked.items u false ≡ true))
+  pub mark_at : (u : ℕ) → ((u ≡ t) × (get_or new.marked.items u false ≡ true))
       ⊎ ((u ≢ t) × (get_or new.marked.items u false ≡ get_or old.marked.items u false))
   mark_at u = let other = get_or-set_other old.marked.items t u true false in
       rw marks.marked (grind (arith, cases_eq u t, get_or-set_same old.marked.items t true false l, other))
 
-  MarksState-keeps : (u : ℕ) → IsMarked old.marked.items u → IsMarked new.marked.items u
-  MarksState-keeps u m = grind (arith, mark_at u)
-
-  MarksState-self : IsMarked new.marked.items t
-  MarksState-self = grind (arith, mark_at t)
-
   abbrev waits : Bool
   waits = ltb t next && not (get_or old.marked.items t false)
-
-  waits_cases : (waiting : List ℕ) (u : ℕ) → Contains (waiting ++ cond waits (t ∷ []) []) u → Contains waiting u
-      ⊎ (t ≡ u)
-  waits_cases waiting u c = let parts = Contains-append_cases waiting (cond waits (t ∷ []) []) u c in
-      grind (arith, nat_tests, parts, contains_cases t [] u, contains_none u)
-
-  waits_self : (waiting : List ℕ) → t < next → get_or old.marked.items t false ≡ false →
-      Contains (waiting ++ cond waits (t ∷ []) []) t
-  waits_self waiting passed unmarked = let e : waits ≡ true = grind (arith, nat_tests) in
-      Contains-append_right waiting (cond waits (t ∷ []) []) t (rw e (contains_here t []))
 
   follows_mark : (R : ℕ → List ℕ → ℕ → Type 0) (waiting : List ℕ) → Follows R old.marked.items next waiting →
       Follows R new.marked.items next (waiting ++ cond waits (t ∷ []) [])
   follows_mark R waiting on u v a low m r =
       let same = Contains-append_left waiting (cond waits (t ∷ []) []) u in
-      grind (
-        arith,
-        mark_at u,
-        cases_Bool (get_or old.marked.items t false),
-        on u v a,
-        waits_self waiting,
-        same,
-        mark_at v,
-      )
+      let put = contains_here t [] in
+      let added = Contains-append_right waiting (cond waits (t ∷ []) []) t in
+      grind (arith, nat_tests, mark_at u, cases_Bool waits, on u v a, put, added, same, mark_at v)
 
   -- Suppose that the state s is at the front of the queue, and that the search marks the target of a step of s. Then
   -- the invariant of the search (`Searches`) still holds.
@@ -97,22 +74,14 @@ module _ {t next : ℕ} {old new : Search} (marks : MarksState t next old new) (
       let on = follows_mark (Step (system_of g)) waiting held.followed in
       let size : length new.marked.items
       ≡ g.states = rw marks.marked (omega (arith, length-set {A = Bool}, held.size)) in
-      rw marks.queue (search (rules, held, size, way, each waiting held.each_waiting, on, only, MarksState-keeps))
-    where
-      each : (waiting : List ℕ) → ((u : ℕ) → Contains waiting u → IsMarked old.marked.items u) → (u : ℕ) →
-          Contains (waiting ++ cond waits (t ∷ []) []) u → IsMarked new.marked.items u
-      each waiting had u c = grind (arith, had u, waits_cases waiting u c, MarksState-keeps u, MarksState-self)
-
-      only : (u : ℕ) → IsMarked new.marked.items u → IsMarked old.marked.items u ⊎ (t ≡ u)
-      only u m = grind (arith, mark_at u)
-
-  -- The place of a transition is its index in the list of all transitions. Suppose that the targets of the transitions
-  -- at the places from `start` to k - 1 are marked. If the search marks the target of the transition at the place k,
-  -- then the targets of the transitions at the places from `start` to k are marked.
-  pub targets_marked : (target : ℕ → ℕ) (start k : ℕ) → t ≡ target k → ((j : ℕ) → start ≤ j → j < k →
-      IsMarked old.marked.items (target j)) → (j : ℕ) → start ≤ j → j < k + 1 → IsMarked new.marked.items (target j)
-  targets_marked target start k is read j low high =
-      grind (arith, cases_eq j k, read j, MarksState-keeps (target j), MarksState-self)
+      let each : (u : ℕ) → Contains (waiting ++ cond waits (t ∷ []) []) u → IsMarked new.marked.items u =
+      λ u c. let parts = Contains-append_cases waiting (cond waits (t ∷ []) []) u c in
+      grind (arith, nat_tests, parts, contains_cases t [] u, contains_none u, held.each_waiting u, mark_at u) in
+      let only : (u : ℕ) → IsMarked new.marked.items u → IsMarked old.marked.items u ⊎ (t ≡ u) =
+      λ u m. grind (arith, mark_at u) in
+      let keeps : (u : ℕ) → IsMarked old.marked.items u → IsMarked new.marked.items u =
+      λ u m. grind (arith, mark_at u) in
+      rw marks.queue (search (rules, held, size, way, each, on, only, keeps))
 
   -- When the state t is marked, the number of transitions that the search may still read stays the same.
   pub places_ahead-marks : (places : List Triple) → places_ahead places next new.marked.items new.queue.items
@@ -120,18 +89,14 @@ module _ {t next : ℕ} {old new : Search} (marks : MarksState t next old new) (
   places_ahead-marks places = let row = λ (s : ℕ). length (row_of s places) in elim (cases_Bool waits) [
     | inl w ↦
         let less = rows_part (is_ahead next old.marked.items) (is_ahead next new.marked.items) (λ s. eqb s t)
-        (ahead_less w) places in
+        (λ s. grind (arith, nat_tests, mark_at s, w)) places in
         rw (marks.queue, w) (omega (arith, less, sum_by_push row old.queue.items t))
-    | inr w ↦ rw (marks.queue, w, append-nil)
-        (ap (λ p. length (rows_of p places) + sum_by row old.queue.items) (λ i u. ahead_same w u i))
+    | inr w ↦
+        let same : (s : ℕ) → is_ahead next new.marked.items s ≡ is_ahead next old.marked.items s =
+        λ s. grind (arith, nat_tests, mark_at s, w) in
+        rw (marks.queue, w, append-nil)
+        (ap (λ p. length (rows_of p places) + sum_by row old.queue.items) (λ i u. same u i))
   ]
-    where
-      ahead_less : waits ≡ true → (s : ℕ) → cond (is_ahead next old.marked.items s) 1 0
-          ≡ cond (is_ahead next new.marked.items s) 1 0 + cond (eqb s t) 1 0
-      ahead_less w s = grind (arith, nat_tests, mark_at s)
-
-      ahead_same : waits ≡ false → (s : ℕ) → is_ahead next new.marked.items s ≡ is_ahead next old.marked.items s
-      ahead_same w s = grind (arith, nat_tests, mark_at s)
 
   -- When the state t is marked, the number of states that are not marked, plus the length of the queue, does not
   -- increase.
@@ -139,42 +104,10 @@ module _ {t next : ℕ} {old new : Search} (marks : MarksState t next old new) (
   states_ahead-marks = let sum = sum_by-set (λ b. cond (not b) 1 0) old.marked.items t true false l in
       rw (marks.marked, marks.queue) (grind (arith, nat_tests, append-nil {A = ℕ}, length_push {X = ℕ}, sum))
 
--- Suppose that the targets of all steps of the state s are marked, and that s is removed from the front of the queue.
--- Then the invariant of the search (`Searches`) still holds.
-pub Searches-read : (g : Grouped) (s next : ℕ) (marked : List Bool) (queue : List ℕ) →
-    ((a : List ℕ) (t : ℕ) → Step (system_of g) s a t → IsMarked marked t) →
-    Searches g marked next (s ∷ queue) → Searches g marked next queue
-Searches-read g s next marked queue read held =
-    let on : Follows (Step (system_of g)) marked next queue =
-    λ u v a l m r. grind (arith, held.followed u v a, contains_cases s queue u, read a v) in
-    search (rules, held, contains_there, on)
-
--- The search scans the states in the order of their numbers. When this scan has passed all states, and the queue is
--- empty, a state is marked if and only if it is reachable.
-pub Searches-end : (g : Grouped) (marked : List Bool) (waiting : List ℕ) → length waiting ≡ 0 →
-    (IsMarked marked g.first → ((s : ℕ) (a : List ℕ) (t : ℕ) → IsMarked marked s → Step (system_of g) s a t →
-    IsMarked marked t) → (s : ℕ) → Reachable (system_of g) s → IsMarked marked s) →
-    Searches g marked g.states waiting → (s : ℕ) → IsMarked marked s ↔ Reachable (system_of g) s
-Searches-end g marked waiting none kept held s = (
-  held.only_reachable s,
-  kept held.first (λ u a v m step. elim (held.followed u v a (marked_below g.states marked u held.size m) m step)
-      [ inl c ↦ absurd (omega (arith, none, c.1)) | inr h ↦ h ]) s,
-)
-
 -- The following lemmas assume that the search has read each transition at most once, and that the meter has counted
 -- these reads (`ReadsOnce`).
 module _ {g : Grouped} {marked : List Bool} {next : ℕ} {waiting : List ℕ} {old mid : Counts}
     (reads : ReadsOnce g marked next waiting old mid) where
-  -- Suppose that `row` is at most the number of transitions that the search may still read. If `row` further reads are
-  -- counted, then the counter does not overflow, and it has counted at most one read for each transition.
-  pub room_for_row : {row : ℕ} → HasRoomFor old 0 (length g.places) →
-      row ≤ places_ahead g.places next marked waiting → HasRoomFor mid 0 row
-  room_for_row room within = room_after room reads.visits (omega (arith, reads.few))
-
-  pub ReadsOnce-within : {row : ℕ} {new : Counts} → Costs mid new 0 0 row →
-      row ≤ places_ahead g.places next marked waiting → Costs old new 0 0 (length g.places)
-  ReadsOnce-within costs within = visits_then reads.visits costs (omega (arith, reads.few))
-
   pub ReadsOnce-row : {row past : ℕ} {more : List Bool} {left : List ℕ} {new : Counts} → Costs mid new 0 0 row →
       places_ahead g.places next marked waiting ≡ places_ahead g.places past more left + row →
       Searches g more past left → ReadsOnce g more past left old new

@@ -5,42 +5,68 @@
 -- transitions of a class.
 use Rattle.std.proofs.Common.{◌-◌, get_or, ◌≡◌, ◌≢◌, ◌⊎◌, ℕ, ◌+◌, ◌<◌, ◌≤◌, Bool, false, not, ◌&&◌, IsTrue, eqb, ltb}
 use Rattle.std.proofs.Common.{List, [], ◌++◌, length, slice_index, Contains, IsPermutation, ap, subst, inl, inr, arith}
-use Rattle.std.proofs.Common.{map, rules}
-use Rattle.std.specs.List.{AllPairs}
+use Rattle.std.proofs.Common.{map, rules, nat_eq}
+use Rattle.std.specs.List.{AllPairs, dedup}
+use Rattle.std.proofs.lemmas.Cmp.{on_total, then_total, nat_cmp_total}
+use Rattle.std.proofs.lemmas.List.Filters.{dedup_is}
+use Rattle.std.proofs.lemmas.List.Kept.{IsStrictlySortedBy-dedup, Contains-dedup, Contains-from_dedup}
+use Rattle.std.proofs.lemmas.List.Sorted.{Contains-permutation, IsPermutation-sym}
+use Rattle.std.proofs.lemmas.Map.Keys.{Less-from_sorted}
+use Rattle.std.specs.declared.cmp.Ordering.TheVariants.{Less, Greater}
+use Rattle.std.specs.Cmp.{IsTotalOrder}
+use Rattle.std.specs.List.Sorted.{IsSorted, IsPermutation}
+use Rattle.std.specs.declared.cmp.Ordering.{Ordering}
+use Rattle.std.specs.Ordering.{nat_cmp, ordering_then}
 use Rattle.std.specs.List.Retain.{IsFiltered, DiffersFromLast}
 use Rattle.std.proofs.lemmas.Bool.Decides.{nat_tests}
 use Rattle.std.proofs.lemmas.List.{length-append, length-map}
 use Rattle.std.proofs.lemmas.List.Elements.{Contains-get_or, Contains-append_cases, Contains-append_left}
 use Rattle.std.proofs.lemmas.List.Elements.{Contains-append_right}
 use Rattle.lts.specs.Lts.{Triple, source_of, row_of}
-use Rattle.lts.specs.Meter.{Counts, HasRoomFor, Costs}
+use Rattle.lts.specs.Meter.{Counts, Costs}
 use Rattle.partition.specs.Blocks.{AreStatesOf}
 use Rattle.quotient_core.specs.Numbers.{AreNumbered}
 use Rattle.quotient_core.specs.Triples.{Numbered, number_of, shown_by, is_reached, is_member, ShowEachOther, rows_of}
 use Rattle.quotient_core.specs.Triples.{turn_of, LeavesNothingOut, HasShown, between_numbers, is_left_out}
 use Rattle.std.proofs.lemmas.Grind.{elements}
 use Rattle.quotient_core.proofs.Reaching.{marked_below}
-use Rattle.quotient_core.proofs.Repeats.{triple_eq, tidied_exactly}
 use Rattle.lts.proofs.CallerLemmas.{contains_mapped, mapped_contains, contains_passing, passing_contains}
 use Rattle.std.proofs.lemmas.Bool.{not-true, not_from_false}
 use Rattle.std.proofs.lemmas.List.Sums.{length-filter, count_by-le-length}
-use Rattle.quotient_core.proofs.Visits.{visits_then, room_after, Parts, rows_part, rows_few}
+use Rattle.quotient_core.proofs.Visits.{visits_then, Parts, rows_part, rows_few}
 
--- `ShownPlace` holds if the quotient transition x (a transition between quotient states) comes from the transition
--- `place`, which is one of the transitions of the state s. The quotient must not leave out x.
-pub record ShownPlace (rows : Numbered) (s : ℕ) (x : Triple) : Type 0 where
-  pub place : Triple
-  pub in_row : Contains (row_of s rows.l.places) place
-  pub is : between_numbers rows s place ≡ x
-  pub stays : is_left_out rows.dropped (between_numbers rows s place) ≡ false
+-- `triple_cmp` compares two triples: first by source, then by label, then by target.
+abbrev triple_cmp : Triple → Triple → Ordering
+triple_cmp x y = ordering_then (ordering_then (nat_cmp x.0 y.0) (nat_cmp x.1 y.1)) (nat_cmp x.2 y.2)
+
+abbrev triple_eq : Triple → Triple → Bool
+triple_eq x y = (nat_eq x.0 y.0 && nat_eq x.1 y.1) && nat_eq x.2 y.2
+
+triple_total : IsTotalOrder triple_cmp
+triple_total = then_total (then_total (on_total (λ t. t.0) nat_cmp_total) (on_total (λ t. t.1) nat_cmp_total))
+    (on_total (λ t. t.2) nat_cmp_total)
+
+-- Suppose that the list ys is sorted, and that zs results from ys by removing each element that is equal to the element
+-- before it. Then the elements of zs are pairwise different.
+pub tidied_once : (ys zs : List Triple) → IsFiltered (DiffersFromLast triple_eq) [] ys zs → IsSorted triple_cmp ys →
+    AllPairs (λ x y. x ≢ y) zs
+tidied_once ys zs filtered sorted = rw (dedup_is triple_eq ys zs filtered) (λ i j d low high same.
+    let y = get_or (dedup triple_eq ys) j d in
+    let less = Less-from_sorted triple_cmp (dedup triple_eq ys) i j d
+    (IsStrictlySortedBy-dedup triple_total (λ x y. search rules) ys sorted) low high in
+    let self : triple_cmp y y ≡ Less = rw same at less in
+    let bad : Less ≡ Greater = rw self at (triple_total.antisymm y y) in cc)
 
 module _ (rows : Numbered) (s : ℕ) where
-  pub place_of : (x : Triple) → Contains (shown_by rows s) x → ShownPlace rows s x
+  -- Each quotient transition x of the state s (a transition between quotient states) comes from a transition of s. The
+  -- quotient does not leave out x.
+  pub place_of : (x : Triple) → Contains (shown_by rows s) x → (e : Triple) × Contains (row_of s rows.l.places) e
+      × (between_numbers rows s e ≡ x) × (is_left_out rows.dropped (between_numbers rows s e) ≡ false)
   place_of x c =
       let shows = passing_contains (λ y. not (is_left_out rows.dropped y))
       (map (between_numbers rows s) (row_of s rows.l.places)) x c in
       let from = mapped_contains (between_numbers rows s) (row_of s rows.l.places) x shows.0 in
-      record { place = from.0; in_row = from.1; is = from.2; stays = rw from.2 (not-true _ shows.1) }
+      (from.0, from.1, from.2, rw from.2 (not-true _ shows.1))
 
   pub shown_place : (e : Triple) → Contains (row_of s rows.l.places) e →
       is_left_out rows.dropped (between_numbers rows s e) ≡ false →
@@ -50,13 +76,6 @@ module _ (rows : Numbered) (s : ℕ) where
       (contains_mapped (between_numbers rows s) (row_of s rows.l.places) e c) (not_from_false _ stays)
 
 module _ {rows : Numbered} where
-  -- Quotient transitions are transitions between quotient states, which represent the classes of states. Suppose that p
-  -- and q are satisfied by the same states. If a list has exactly the quotient transitions of the states that satisfy
-  -- p, then the list also has exactly the quotient transitions of the states that satisfy q.
-  pub shown_same : {p q : ℕ → Bool} {list : List Triple} → ((s : ℕ) → p s ≡ q s) → HasShown rows p list →
-      HasShown rows q list
-  shown_same {list = list} same h = subst (λ t. HasShown rows t list) (λ i s. same s i) h
-
   -- Quotient transitions are transitions between quotient states, which represent the classes of states. Suppose that
   -- each state that satisfies p satisfies exactly one of q and r, and that each other state satisfies neither q nor r
   -- (`Parts`). If xs has the quotient transitions of the states that satisfy q, and ys has the quotient transitions of
@@ -80,11 +99,6 @@ module _ {rows : Numbered} where
       cases : (s : ℕ) → IsTrue (p s) → IsTrue (q s) ⊎ IsTrue (r s)
       cases s h = grind (arith, parts s)
 
-  -- Suppose that a list has exactly the quotient transitions (transitions between quotient states) of the states in a
-  -- set (`HasShown`). Then the length of the list is at most the number of all transitions of the system.
-  pub shown_all : {p : ℕ → Bool} {list : List Triple} → HasShown rows p list → length list ≤ length rows.l.places
-  shown_all {p} h = omega (arith, h.few, rows_few p rows.l.places)
-
   -- The list `shown_by rows s` has exactly the quotient transitions (transitions between quotient states) of the set
   -- that contains only the state s.
   pub shown_row : (s : ℕ) → HasShown rows (λ t. eqb t s) (shown_by rows s)
@@ -103,9 +117,12 @@ module _ {rows : Numbered} where
       IsPermutation list sorted → IsFiltered (DiffersFromLast triple_eq) [] sorted tidy → length tidy ≤ length list →
       HasShown rows p tidy
   shown_tidy {list = list} {sorted = sorted} {tidy = tidy} h same filtered short = record {
-    exactly = λ x.
-        let tidied = tidied_exactly sorted tidy filtered list same x in
-        (λ c. (h.exactly x).0 (tidied.0 c), λ f. tidied.1 ((h.exactly x).1 f));
+    exactly = λ x. rw (dedup_is triple_eq sorted tidy filtered) (
+      λ c. (h.exactly x).0 (Contains-permutation sorted list x (IsPermutation-sym list sorted same)
+          (Contains-from_dedup triple_eq sorted x c)),
+      λ f. Contains-dedup (search rules) (λ x y e. search rules) sorted x
+          (Contains-permutation list sorted x same ((h.exactly x).1 f)),
+    );
     few = omega (arith, short, h.few);
   }
 
@@ -127,12 +144,6 @@ pub rows_fit : (rows : Numbered) (n : ℕ) → length (rows_of (is_below rows n)
 rows_fit rows n = let part = rows_part _ _ _ (below_next rows n) rows.l.places in
     omega (arith, part, rows_few (is_below rows (n + 1)) rows.l.places)
 
--- The class number of each reachable state, which is the quotient state that represents it, is less than the number of
--- classes.
-pub below_count : (rows : Numbered) → AreNumbered rows.l.states rows.n → (s : ℕ) →
-    is_below rows (length rows.n.classes.items) s ≡ is_reached rows s
-below_count rows are s = grind (arith, nat_tests, are.below s)
-
 -- Quotient transitions are transitions between quotient states, which represent the classes of states. Suppose that the
 -- quotient transitions of the classes with numbers less than n are pairwise different, and that the quotient
 -- transitions of the class n are pairwise different, too. Then the quotient transitions of the classes with numbers
@@ -151,8 +162,8 @@ once_next rows n xs ys h g one other i j d low high =
     differ : {x : Triple} → (s : ℕ) × IsTrue (is_below rows n s) × Contains (shown_by rows s) x →
         (t : ℕ) × IsTrue (is_member rows n t) × Contains (shown_by rows t) x → ⊥
     differ {x} (s, low, c) (t, is, e) =
-        let one = (place_of rows s x c).is in
-        let two = (place_of rows t x e).is in
+        let (_, _, one, _) = place_of rows s x c in
+        let (_, _, two, _) = place_of rows t x e in
         grind (arith, nat_tests, low, is, ap source_of one, ap source_of two)
 
 -- `was_read` is true if the state s is a member of the class n, and is among the first k states that the loop of
@@ -191,7 +202,9 @@ module _ {rows : Numbered} {n : ℕ} {members : List ℕ} {k : ℕ} {class : Lis
       omega (arith, rows_part (is_member rows n) (read i) rest (λ s. grind (arith, nat_tests)) rows.l.places)
 
   pub read_all : length members ≤ k → HasShown rows (is_member rows n) class
-  read_all end = shown_same (λ s. grind (arith, nat_tests, there s)) h.shown
+  read_all end =
+      let same : (s : ℕ) → read k s ≡ is_member rows n s = λ s. grind (arith, nat_tests, there s) in
+      subst (λ p. HasShown rows p class) (λ i s. same s i) h.shown
 
   -- The loop of `read_class` takes the states of a block one after the other. In the following lemmas, k states have
   -- been taken so far, and `next` is the state that the loop takes next.
@@ -205,15 +218,12 @@ module _ {rows : Numbered} {n : ℕ} {members : List ℕ} {k : ℕ} {class : Lis
     -- Suppose that `next` is not reachable, so that its transitions are not read. Then the invariant `IsReadTo` holds
     -- for the first k + 1 states of the block, with the same list `class`.
     pub read_over : is_reached rows next ≡ false → IsReadTo rows n members (k + 1) class old mid
-    read_over out = let same : (s : ℕ) → read k s ≡ read (k + 1) s = λ s. grind (arith, nat_tests, there s) in
-        record {
-          below = h.below;
-          numbered = h.numbered;
-          are = h.are;
-          shown = shown_same same h.shown;
-          visits = subst (λ (p : ℕ → Bool). Costs old mid 0 0 (length (rows_of p rows.l.places))) (λ i s. same s i)
-              h.visits;
-        }
+    read_over out =
+        let same : (s : ℕ) → read k s ≡ read (k + 1) s = λ s. grind (arith, nat_tests, there s) in
+        let shown : HasShown rows (read (k + 1)) class = subst (λ p. HasShown rows p class) (λ i s. same s i) h.shown in
+        let visits : let own = rows_of (read (k + 1)) rows.l.places in Costs old mid 0 0 (length own) =
+        subst (λ (p : ℕ → Bool). Costs old mid 0 0 (length (rows_of p rows.l.places))) (λ i s. same s i) h.visits in
+        search (rules, h, shown, visits)
 
     module _ (way : IsTrue (is_reached rows next)) where
       next_member : IsTrue (is_member rows n next)
@@ -224,13 +234,9 @@ module _ {rows : Numbered} {n : ℕ} {members : List ℕ} {k : ℕ} {class : Lis
 
       -- The number of transitions of `next`, plus the number of transitions of the members that were read before, is at
       -- most the number of transitions of all members of the class.
-      fits : length (rows_of (read k) rows.l.places) + length (row_of next rows.l.places)
+      pub fits : length (rows_of (read k) rows.l.places) + length (row_of next rows.l.places)
           ≤ length (rows_of (is_member rows n) rows.l.places)
       fits = omega (arith, rows_part _ _ _ next_parts rows.l.places, read_few (k + 1))
-
-      pub read_room : HasRoomFor old 0 (length (rows_of (is_member rows n) rows.l.places)) →
-          HasRoomFor mid 0 (length (row_of next rows.l.places))
-      read_room room = room_after room h.visits fits
 
       module _ {new : Counts} (row : Costs mid new 0 0 (length (row_of next rows.l.places))) where
         pub read_visits : Costs old new 0 0 (length (rows_of (is_member rows n) rows.l.places))
@@ -241,13 +247,11 @@ module _ {rows : Numbered} {n : ℕ} {members : List ℕ} {k : ℕ} {class : Lis
           shown_next = rw put (shown_with next_parts h.shown (shown_row next))
 
           pub read_next : IsReadTo rows n members (k + 1) more old new
-          read_next = record {
-            below = h.below;
-            numbered = h.numbered;
-            are = h.are;
-            shown = shown_next;
-            visits = visits_then h.visits row (omega (arith, rows_part _ _ _ next_parts rows.l.places));
-          }
+          read_next =
+              let few = rows_part _ _ _ next_parts rows.l.places in
+              let visits : let own = rows_of (read (k + 1)) rows.l.places in Costs old new 0 0 (length own) =
+              visits_then h.visits row (omega (arith, few)) in
+              search (rules, h, shown_next, visits)
 
           -- The quotient leaves out inert transitions. If no transition of the state `next` is left out, then the
           -- quotient transitions (transitions between quotient states) of the members that have been read, including

@@ -46,7 +46,7 @@ pub record AreNumbered (states : ℕ) (n : Numbering) : Type 0 where
 -- The number of classes must equal the number of leaders, which are the states that represent the classes, and must be
 -- at most the number of states.
 pub record IsNumbering (rel : Relation) (A : System) (n : Numbering) : Type 0 where
-  pub fits : AreNumbered A.states n
+  pub numbered : AreNumbered A.states n
   pub reached : (s : ℕ) → IsMarked n.reached.items s ↔ Reachable A s
   pub number : (s : ℕ) → Reachable A s → Number rel A s (slice_index n.numbers.items s)
   pub counted : HowMany (IsLeader rel A) (length n.classes.items)

@@ -69,16 +69,11 @@ pub fn number<M: Meter>(
     for s in 0..states {
         taken.add(blocks.block_ids()[s as usize], reached[s as usize])?;
     }
-    let Numbers {
-        numbers,
-        classes,
-        ..
-    } = taken;
     Ok(Numbering {
         blocks,
         reached,
-        numbers,
-        classes,
+        numbers: taken.numbers,
+        classes: taken.classes,
     })
 }
 

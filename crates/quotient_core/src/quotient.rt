@@ -31,7 +31,6 @@ pub fn quotient_of<M: Meter>(
 {
     l.invariants();
     lts::rows_are_steps();
-    theory::steps_keep_reachable();
     theory::each_state_has_a_number();
     theory::numbers_are_classes();
     theory::states_without_inert_steps_show_all();

@@ -1,14 +1,8 @@
-use Rattle.std.proofs.Common.{rules, ◌≡◌, ◌↔◌, ℕ, ◌+◌, eqb, IsTrue, slice_index, refl, arith}
+use Rattle.std.proofs.Common.{rules, ◌≡◌, ◌+◌, slice_index, arith}
 use Rattle.std.proofs.lemmas.Result.{err_from_is_err_and}
 use Rattle.lts.specs.Lts.{system_of}
 use Rattle.quotient.proofs.Visits.{compared_keeps, rounds_keep}
 use Rattle.quotient.proofs.comparison.equivalent.Goals as goal
-
--- Suppose that P holds if and only if the numbers `first` and `second` are equal. If x equals `first`, and y equals
--- `second`, then P holds if and only if the comparison `eqb x y` returns true.
-same_decides : {P : Type 0} (x y first second : ℕ) → x ≡ first → y ≡ second → P ↔ (first ≡ second) → IsTrue (eqb x y)
-    ↔ P
-same_decides x y first second ex ey law = search rules
 
 pub returns-clause-verdict : goal.returns-clause-verdict
 returns-clause-verdict g c = let A = system_of c.args.a.now in
@@ -18,8 +12,7 @@ returns-clause-verdict g c = let A = system_of c.args.a.now in
     (slice_index c.in_ok-blocks.blocks.block_ids) c.invariants.ensures.system c.invariants-2.ensures.system
     (decides.same (system_of c.in_ok-both.both) _ c.in_ok-both.ensures.system) c.in_ok-blocks.ensures.classes in
     let at : c.states.result + c.first-2.result ≡ A.states + B.first = search rules in
-    same_decides _ _ _ _ (rw (c.block_ids-block_ids.ensures.block_ids, c.first.ensures) refl)
-    (rw (c.block_ids-block_ids.ensures.block_ids, at) refl) law
+    rw (c.block_ids-block_ids.ensures.block_ids, c.first.ensures, at) (search (rules, law))
 
 pub returns-in_err-blocks-clause-keeps : goal.returns-in_err-blocks-clause-keeps
 returns-in_err-blocks-clause-keeps g c = let begun = c.in_err-blocks.ensures.err in

@@ -6,8 +6,7 @@ use Rattle.theory.specs.declared.relation.Relation.{Relation}
 use Rattle.lts.specs.Lts.{system_of}
 use Rattle.quotient_core.specs.Numbers.{AreClasses}
 use Rattle.quotient_core.specs.declared.numbering.TheConstants.{NONE}
-use Rattle.quotient_core.proofs.Classes.{Laws, Taken, Taken-start, Taken-adds, Taken-end, TakesState-room}
-use Rattle.quotient_core.proofs.Classes.{TakesState-below}
+use Rattle.quotient_core.proofs.Classes.{Laws, Taken-start, Taken-adds, TakesState-room, class_at}
 use Rattle.quotient_core.proofs.numbering.number.Given.{Over}
 use Rattle.quotient_core.proofs.numbering.number.Goals as goal
 use Rattle.quotient_core.proofs.numbering.number.Goals.{In_ok-vec}
@@ -22,7 +21,6 @@ module _ (g : Over) (c : In_ok-vec g) where
       record {
         same = classes;
         system = sys;
-        first_reached = c.steps_keep_reachable.ensures.first A;
         below = λ s. c.steps_keep_reachable.ensures.below A s sys;
         number = λ s. c.each_state_has_a_number.ensures.number rel A s sys;
         classes = λ s t m n. c.numbers_are_classes.ensures rel A s t m n sys;
@@ -68,7 +66,7 @@ loop-s-preserved g c =
     record {
       room = (TakesState-room takes).0 ∙ up.room;
       few = omega (arith, (TakesState-room takes).2, up.few);
-      below = TakesState-below takes _ (below g at s low) up.below;
+      below = λ i l. grind (arith, class_at takes i l, up.below i, below g at s low);
       taken = λ rel classes. Taken-adds rel (system_of c.args.l.now) _
           (laws g at rel classes) s c.loop-s.taken _ _ is_reached low
           (omega (arith, low, c.states-states.ensures.lts.in_range.few_states)) up.few
@@ -77,8 +75,23 @@ loop-s-preserved g c =
 
 pub returns : goal.returns
 returns g c = λ rel classes. let A = system_of c.args.l.now in
+    let laws = laws g (goal.at.returns g c).In_ok-vec rel classes in
     let end : c.loop-s.s ≡ A.states = omega (arith, c.states-states.ensures.value) in
-    let taken = subst (λ n. Taken rel A (slice_index c.args.blocks.block_ids) n c.loop-s.taken) end
-    (c.loop-s.invariant.taken rel classes) in
-    Taken-end rel A _ c.loop-s.taken (laws g (goal.at.returns g c).In_ok-vec rel classes) c.requires.blocks_long
-    c.requires.reached_long c.loop-s.invariant.below c.requires.reached taken
+    let h = rw end at (c.loop-s.invariant.taken rel classes) in
+    let reached = c.requires.reached in
+    let seen = λ (s : ℕ) (way : Reachable A s). h.seen s (laws.below s way) way in
+    let numbered = λ (s : ℕ) (way : Reachable A s). h.numbered s (laws.below s way) (seen s way).1 in
+    record {
+      numbered = record {
+        blocks_long = c.requires.blocks_long;
+        reached_long = c.requires.reached_long;
+        numbers_long = h.numbers_long;
+        classes_below = c.loop-s.invariant.below;
+        below = λ s m. let way = (reached s).0 m in rw (seen s way).0 (numbered s way).0;
+        class = λ s i m. let way = (reached s).0 m in rw (seen s way).0 (h.classes s i (laws.below s way));
+      };
+      reached = reached;
+      number = λ s way. rw (seen s way).0 ((numbered s way).1 s way refl);
+      counted = rw h.counted.2 (laws.all h.counted.0 h.counted.1);
+      few = h.fewer laws.system.first;
+    }

@@ -1,10 +1,9 @@
-use Rattle.std.proofs.Common.{rules, ◌≡◌, ◌≤◌, length, arith}
+use Rattle.std.proofs.Common.{ℕ, false, get_or, rules, ◌≡◌, ◌≤◌, length, arith}
 use Rattle.std.proofs.lemmas.List.Sorted.{length_permutation}
 use Rattle.std.proofs.lemmas.Result.{IfOk-weaker}
 use Rattle.lts.specs.Lts.{system_of}
-use Rattle.quotient_core.specs.Triples.{Numbered, HasShown, is_reached}
 use Rattle.quotient_core.proofs.Quotients.{IsNumbered, quotient_in_range, built, show_each_other}
-use Rattle.quotient_core.proofs.Showing.{shown_all}
+use Rattle.quotient_core.proofs.Visits.{rows_few}
 use Rattle.quotient_core.proofs.quotient.quotient_of.Given.{Over}
 use Rattle.quotient_core.proofs.quotient.quotient_of.Goals as goal
 use Rattle.quotient_core.proofs.quotient.quotient_of.Goals.{After-new-rows, In_ok-shown, After-len}
@@ -19,8 +18,6 @@ is g c = let r = c.args.r in
       numbering = c.requires.numbering;
       drops = search rules;
       lts = c.invariants.ensures;
-      reached_first = c.steps_keep_reachable.ensures.first (system_of l);
-      reached_on = c.steps_keep_reachable.ensures.step (system_of l);
       one_number = λ s m n. c.each_state_has_a_number.ensures.one_number r (system_of l) s m n sys;
       classes = λ s t m n. c.numbers_are_classes.ensures r (system_of l) s t m n sys;
       shows_all = λ s t a u. c.states_without_inert_steps_show_all.ensures r (system_of l) s t a u sys;
@@ -32,30 +29,25 @@ pub shown_transitions-requires-clause-whole : goal.shown_transitions-requires-cl
 shown_transitions-requires-clause-whole g c = rw c.new-rows.ensures
     (show_each_other (is g (goal.at.shown_transitions-requires-clause-whole g c).After-new-rows))
 
--- The list `shown` has exactly the quotient transitions (transitions between quotient states) of all reachable states.
--- Its length is at most the number of all transitions of the system.
-shown : (g : Over) (c : In_ok-shown g) → let rows : Numbered = record {
-  l = c.args.l.now;
-  n = c.args.numbering.now;
-  dropped = c.dropped.result;
-} in HasShown rows (is_reached rows) c.in_ok-shown.shown
-shown g c = rw c.new-rows.ensures at c.in_ok-shown.ensures.shown
-
 less : (g : Over) (c : In_ok-shown g) → length c.in_ok-shown.shown ≤ length c.args.l.now.places
-less g c = shown_all (shown g c)
+less g c = let shown = rw c.new-rows.ensures at c.in_ok-shown.ensures.shown in
+    let reached = λ (s : ℕ). get_or c.args.numbering.now.reached.items s false in
+    omega (arith, shown.few, rows_few reached c.args.l.now.places)
 
 counted : (g : Over) (c : After-len g) → c.len.result ≡ length c.args.numbering.now.classes.items
 counted g c = search (rules, c.args.numbering.now.classes.ok)
 
 pub with_labels_of-requires : goal.with_labels_of-requires
 with_labels_of-requires g c = let goals = goal.at.with_labels_of-requires g c in
-    rw (counted g goals.After-len) (quotient_in_range (is g goals.After-new-rows) _ (shown g goals.In_ok-shown)
-    c.in_ok-shown.ensures.once (less g goals.In_ok-shown))
+    let shown = rw c.new-rows.ensures at c.in_ok-shown.ensures.shown in
+    rw (counted g goals.After-len) (quotient_in_range (is g goals.After-new-rows) _ shown c.in_ok-shown.ensures.once
+    (less g goals.In_ok-shown))
 
 pub returns-clause-quotient : goal.returns-clause-quotient
 returns-clause-quotient g c = let goals = goal.at.returns-clause-quotient g c in
-    IfOk-weaker c.with_labels_of.result _ _ (built (is g goals.After-new-rows) _ (shown g goals.In_ok-shown)
-    c.in_ok-shown.ensures.once) (rw (counted g goals.After-len) at c.with_labels_of.ensures)
+    let shown = rw c.new-rows.ensures at c.in_ok-shown.ensures.shown in
+    IfOk-weaker c.with_labels_of.result _ _ (built (is g goals.After-new-rows) _ shown c.in_ok-shown.ensures.once)
+    (rw (counted g goals.After-len) at c.with_labels_of.ensures)
 
 pub returns-clause-fewer_transitions : goal.returns-clause-fewer_transitions
 returns-clause-fewer_transitions g c =

@@ -1,9 +1,12 @@
-use Rattle.std.proofs.Common.{ℕ, ◌≡◌, ◌+◌, false, length, sym, arith}
+use Rattle.std.proofs.Common.{ℕ, List, ◌≡◌, ◌+◌, false, length, sym, arith}
 use Rattle.std.proofs.lemmas.List.Sums.{sum_by-cons}
 use Rattle.std.specs.List.{slice_index_or}
 use Rattle.lts.specs.Lts.{system_of, row_of}
 use Rattle.quotient_core.specs.Search.{places_ahead}
-use Rattle.quotient_core.proofs.Reaching.{Searches-end, room_for_row, ReadsOnce-row, ReadsOnce-within}
+use Rattle.theory.specs.System.{Step}
+use Rattle.quotient_core.specs.Numbers.{IsMarked}
+use Rattle.quotient_core.proofs.Reaching.{marked_below, ReadsOnce-row}
+use Rattle.quotient_core.proofs.Visits.{visits_then, room_after}
 use Rattle.quotient_core.proofs.search.reachable.Given.{Over}
 use Rattle.quotient_core.proofs.search.reachable.Goals as goal
 use Rattle.quotient_core.proofs.search.reachable.Goals.{In-Some}
@@ -19,8 +22,8 @@ ahead g c = let row = λ (s : ℕ). length (row_of s c.args.l.now.places) in
 pub mark_targets-requires : goal.mark_targets-requires
 mark_targets-requires g c = record {
   search = rw (c.states.ensures.value, sym c.in-Some.ensures.items) c.loop-s.invariant.search;
-  room = room_for_row c.loop-s.invariant c.requires.room
-      (omega (arith, ahead g (goal.at.mark_targets-requires g c).In-Some));
+  room = room_after c.requires.room c.loop-s.invariant.visits
+      (omega (arith, ahead g (goal.at.mark_targets-requires g c).In-Some, c.loop-s.invariant.few));
 }
 
 pub loop-s-preserved : goal.loop-s-preserved
@@ -29,12 +32,19 @@ loop-s-preserved g c = let done = rw c.states.ensures.value at c.in_ok-mark_targ
     (rw done.places (ahead g (goal.at.loop-s-preserved g c).In-Some)) done.search
 
 pub returns-in_err-mark_targets-clause-visits : goal.returns-in_err-mark_targets-clause-visits
-returns-in_err-mark_targets-clause-visits g c = ReadsOnce-within c.loop-s.invariant c.mark_targets.ensures.visits
-    (omega (arith, ahead g (goal.at.returns-in_err-mark_targets-clause-visits g c).In-Some))
+returns-in_err-mark_targets-clause-visits g c = let at = goal.at.returns-in_err-mark_targets-clause-visits g c in
+    visits_then c.loop-s.invariant.visits c.mark_targets.ensures.visits
+    (omega (arith, ahead g at.In-Some, c.loop-s.invariant.few))
 
 pub returns-clause-exactly : goal.returns-clause-exactly
 returns-clause-exactly g c s = let l = c.args.l.now in
-    let queue = c.loop-s.search.queue in
-    Searches-end l c.loop-s.search.marked.items queue.items (omega (arith, queue.ok.0, c.in_default.ensures.cases.0))
-    (c.steps_keep_reachable.ensures.kept (system_of l) (λ x. slice_index_or c.loop-s.search.marked.items x false))
-    c.loop-s.invariant.search s
+    let held = c.loop-s.invariant.search in
+    let marked = c.loop-s.search.marked.items in
+    let none : length c.loop-s.search.queue.items ≡ 0 =
+    omega (arith, c.loop-s.search.queue.ok.0, c.in_default.ensures.cases.0) in
+    let on : (u : ℕ) (a : List ℕ) (v : ℕ) → IsMarked marked u → Step (system_of l) u a v → IsMarked marked v =
+    λ u a v m step. let cases = held.followed u v a (marked_below l.states marked u held.size m) m step in
+    grind (arith, none, cases) in (
+      held.only_reachable s,
+      c.steps_keep_reachable.ensures.kept (system_of l) (λ x. slice_index_or marked x false) held.first on s,
+    )

@@ -1,7 +1,7 @@
 use Rattle.std.proofs.Common.{◌∙◌, sym, arith}
-use Rattle.quotient_core.proofs.Showing.{next_below, read_few, read_all, read_over, read_room, read_visits, read_next}
+use Rattle.quotient_core.proofs.Showing.{next_below, read_few, read_all, read_over, fits, read_visits, read_next}
 use Rattle.quotient_core.proofs.Showing.{read_enough}
-use Rattle.quotient_core.proofs.Visits.{visits_at_most}
+use Rattle.quotient_core.proofs.Visits.{visits_at_most, room_after}
 use Rattle.quotient_core.proofs.triples.read_class.Goals as goal
 
 pub is_reached-requires : goal.is_reached-requires
@@ -15,8 +15,8 @@ loop-k-preserved-then-not-is_reached g c = read_over c.loop-k.invariant c.last_f
     c.last_first.ensures.turn (sym c.is_reached.ensures ∙ c.if-not-is_reached.true)
 
 pub read_row-requires-clause-room : goal.read_row-requires-clause-room
-read_row-requires-clause-room g c = read_room c.loop-k.invariant c.last_first.ensures.below c.last_first.ensures.turn
-    (sym c.is_reached.ensures ∙ c.if-not-is_reached.false) c.requires.room
+read_row-requires-clause-room g c = room_after c.requires.room c.loop-k.invariant.visits (fits c.loop-k.invariant
+    c.last_first.ensures.below c.last_first.ensures.turn (sym c.is_reached.ensures ∙ c.if-not-is_reached.false))
 
 pub returns-in_err-read_row-clause-visits : goal.returns-in_err-read_row-clause-visits
 returns-in_err-read_row-clause-visits g c = read_visits c.loop-k.invariant c.last_first.ensures.below

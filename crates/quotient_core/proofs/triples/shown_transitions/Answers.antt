@@ -1,8 +1,8 @@
-use Rattle.std.proofs.Common.{rules, ◌≡◌, ◌∙◌, ◌≤◌, ◌++◌, length, ap, arith}
-use Rattle.quotient_core.specs.Triples.{HasShown, is_member}
-use Rattle.quotient_core.proofs.Repeats.{tidied_once}
-use Rattle.quotient_core.proofs.Showing.{is_below, below_next, below_count, shown_with, shown_tidy, shown_same}
-use Rattle.quotient_core.proofs.Showing.{once_next, rows_fit}
+use Rattle.std.proofs.lemmas.Bool.Decides.{nat_tests}
+use Rattle.std.proofs.Common.{subst, ℕ, rules, ◌≡◌, ◌∙◌, ◌≤◌, ◌++◌, length, ap, arith}
+use Rattle.quotient_core.specs.Triples.{HasShown, is_member, is_reached}
+use Rattle.quotient_core.proofs.Showing.{is_below, below_next, shown_with, shown_tidy}
+use Rattle.quotient_core.proofs.Showing.{tidied_once, once_next, rows_fit}
 use Rattle.quotient_core.proofs.Visits.{visits_then, visits_at_most, room_after, rows_part, rows_few}
 use Rattle.quotient_core.proofs.triples.shown_transitions.Given.{Over}
 use Rattle.quotient_core.proofs.triples.shown_transitions.Goals as goal
@@ -51,7 +51,9 @@ pub returns-clause-shown : goal.returns-clause-shown
 returns-clause-shown g c = let rows = c.args.rows.now in
     let end : c.loop-number.number ≡ length rows.n.classes.items =
     omega (arith, c.loop-number-test.false, c.loop-number.auto.number-end, ap length c.classes-number-end.ensures) in
-    shown_same (below_count rows c.invariants.ensures.numbered) (rw end at c.loop-number.invariant.shown)
+    let all : (s : ℕ) → is_below rows c.loop-number.number s ≡ is_reached rows s =
+    λ s. grind (arith, nat_tests, end, c.invariants.ensures.numbered.below s) in
+    subst (λ p. HasShown rows p c.loop-number.shown) (λ i s. all s i) c.loop-number.invariant.shown
 
 pub returns-clause-visits : goal.returns-clause-visits
 returns-clause-visits g c = visits_at_most c.loop-number.invariant.visits

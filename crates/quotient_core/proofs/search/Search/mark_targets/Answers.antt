@@ -1,12 +1,13 @@
 use Rattle.lts.specs.Lts.{source_of, label_of, target_of, place_at, system_of}
 use Rattle.std.proofs.lemmas.List.{get_or_default}
-use Rattle.std.proofs.Common.{◌≡◌, ap, ◌∙◌, ◌-◌, ◌<◌, length, refl, sym, subst, arith, rules}
-use Rattle.theory.proofs.CallerLemmas.{contains_here}
+use Rattle.std.proofs.Common.{ℕ, List, ◌≡◌, ap, ◌∙◌, ◌<◌, length, refl, sym, subst, arith, rules}
+use Rattle.theory.proofs.CallerLemmas.{contains_here, contains_there, contains_cases}
+use Rattle.std.proofs.lemmas.Bool.{cases_eq}
 use Rattle.std.proofs.lemmas.List.Elements.{Contains-get_or}
-use Rattle.theory.specs.System.{Reachable}
+use Rattle.theory.specs.System.{Reachable, Step}
 use Rattle.lts.specs.Labels.{text_of}
 use Rattle.quotient_core.specs.Numbers.{IsMarked}
-use Rattle.quotient_core.proofs.Reaching.{marked_below, Searches-step, Searches-read, targets_marked}
+use Rattle.quotient_core.proofs.Reaching.{Follows, marked_below, mark_at, Searches-step}
 use Rattle.quotient_core.proofs.Reaching.{places_ahead-marks, states_ahead-marks}
 use Rattle.quotient_core.proofs.search.Search.mark_targets.Given.{Over}
 use Rattle.quotient_core.proofs.search.Search.mark_targets.Goals as goal
@@ -41,8 +42,9 @@ loop-k-preserved g c = let at = (goal.at.loop-k-preserved g c).In_ok-mark in
     let places = c.args.l.now.places in
     record {
       search = Searches-step marks (below g at) _ c.args.s (led_to g at) c.loop-k.invariant.search;
-      read = targets_marked marks (below g at) (λ j. target_of (place_at places j)) _ _ c.edge-target.ensures.target
-          c.loop-k.invariant.read;
+      read = λ j low high.
+          let now = mark_at marks (below g at) (target_of (place_at places j)) in
+          grind (arith, cases_eq j c.loop-k.k, c.loop-k.invariant.read j, now, c.edge-target.ensures.target, low, high);
       states = omega (arith, states_ahead-marks marks (below g at), c.loop-k.invariant.states);
       places = places_ahead-marks marks (below g at) places ∙ c.loop-k.invariant.places;
       visits = let range = c.loop-k.auto.k in search rules;
@@ -50,10 +52,20 @@ loop-k-preserved g c = let at = (goal.at.loop-k-preserved g c).In_ok-mark in
 
 pub returns-clause-search : goal.returns-clause-search
 returns-clause-search g c = let l = c.args.l.now in
-    Searches-read l c.args.s c.args.next c.loop-k.self.marked.items c.loop-k.self.queue.items (λ a t step.
-    let (e, in_row, label, to) = (c.rows_are_steps.ensures.steps l c.args.s a t).0 step in
-    let ((j, at, is), own) = (c.rows_are_steps.ensures.sources c.args.s l.places e).0 in_row in
+    let s = c.args.s in
+    let marked = c.loop-k.self.marked.items in
+    let queue = c.loop-k.self.queue.items in
+    let held = c.loop-k.invariant.search in
+    let read : (a : List ℕ) (t : ℕ) → Step (system_of l) s a t → IsMarked marked t = λ a t step.
+    let (e, in_row, label, to) = (c.rows_are_steps.ensures.steps l s a t).0 step in
+    let ((j, at, is), own) = (c.rows_are_steps.ensures.sources s l.places e).0 in_row in
     let here : place_at l.places j ≡ e = get_or_default l.places j (0, 0, 0) e at ∙ is in
     let range = (c.row-start.ensures.exactly j at).0 (ap source_of here ∙ own) in
-    subst (IsMarked c.loop-k.self.marked.items) (ap target_of here ∙ to) (c.loop-k.invariant.read j range.0
-    (omega (arith, range.1, c.loop-k-test.false)))) c.loop-k.invariant.search
+    subst (IsMarked marked) (ap target_of here ∙ to) (c.loop-k.invariant.read j range.0
+    (omega (arith, range.1, c.loop-k-test.false))) in
+    let on : Follows (Step (system_of l)) marked c.args.next queue =
+    λ u v a low m r.
+    let had = held.followed u v a low m r in
+    let own = λ (e : s ≡ u). read a v (subst (λ w. Step (system_of l) w a v) (sym e) r) in
+    grind (arith, had, contains_cases s queue u, own) in
+    search (rules, held, contains_there, on)

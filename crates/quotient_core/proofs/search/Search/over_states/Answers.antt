@@ -1,8 +1,8 @@
-use Rattle.quotient_core.proofs.Visits.{visits_at_most}
+use Rattle.quotient_core.proofs.Visits.{visits_at_most, visits_then, room_after}
 use Rattle.std.proofs.Common.{◌≡◌, false, get_or, replicate, arith, rules}
 use Rattle.lts.specs.Lts.{system_of}
 use Rattle.quotient_core.proofs.Reaching.{ReadsOnce-first, Searches-pass, ReadsOnce-skip, places_ahead-pass}
-use Rattle.quotient_core.proofs.Reaching.{room_for_row, ReadsOnce-row, ReadsOnce-within}
+use Rattle.quotient_core.proofs.Reaching.{ReadsOnce-row}
 use Rattle.quotient_core.proofs.search.Search.over_states.Goals as goal
 
 pub loop-s-init : goal.loop-s-init
@@ -23,18 +23,22 @@ mark_targets-requires-clause-search g c = Searches-pass c.loop-s.invariant c.sta
 pub mark_targets-requires-clause-room : goal.mark_targets-requires-clause-room
 mark_targets-requires-clause-room g c = let pass = places_ahead-pass c.loop-s.invariant c.states-s-end.ensures.value
     c.loop-s-test.true c.index.ensures c.if-not-index.false in
-    room_for_row c.loop-s.invariant c.requires.room (omega (arith, pass))
+    room_after c.requires.room c.loop-s.invariant.visits (omega (arith, pass, c.loop-s.invariant.few))
 
 pub returns-in_err-mark_targets-clause-visits : goal.returns-in_err-mark_targets-clause-visits
 returns-in_err-mark_targets-clause-visits g c = let pass = places_ahead-pass c.loop-s.invariant
     c.states-s-end.ensures.value c.loop-s-test.true c.index.ensures c.if-not-index.false in
-    ReadsOnce-within c.loop-s.invariant c.mark_targets.ensures.visits (omega (arith, pass))
+    visits_then c.loop-s.invariant.visits c.mark_targets.ensures.visits (omega (arith, pass, c.loop-s.invariant.few))
 
 pub loop-s-preserved : goal.loop-s-preserved
 loop-s-preserved g c = let pass = places_ahead-pass c.loop-s.invariant c.states-s-end.ensures.value
     c.loop-s-test.true c.index.ensures c.if-not-index.false in
     ReadsOnce-row c.loop-s.invariant c.mark_targets.ensures.visits (rw c.in_ok-mark_targets.ensures.places pass)
     c.in_ok-mark_targets.ensures.search
+
+pub returns-clause-reads : goal.returns-clause-reads
+returns-clause-reads g c = let all : c.loop-s.s ≡ c.args.l.now.states = omega (arith, c.states-s-end.ensures.value) in
+    rw all at c.loop-s.invariant
 
 pub returns-clause-visits : goal.returns-clause-visits
 returns-clause-visits g c = visits_at_most c.loop-s.invariant.visits (omega arith)
