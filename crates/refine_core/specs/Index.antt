@@ -98,8 +98,8 @@ abbrev pub IsAsked : Option ℕ → Grouped → List ℕ → ℕ → Type 0
 IsAsked block l of p = IfSome block (λ b. text_of l.labels (label_of (place_at l.places p)) ≡ internal)
     × IfSome block (λ b. slice_index of (source_of (place_at l.places p)) ≡ b)
 
--- `FindsLookedUp` holds if the search has found the sources of all transitions to the state t for which `IsAsked` holds.
--- Sources in singleton blocks need not be found.
+-- `FindsLookedUp` holds if, for each transition to the state t whose source the search has to find (`IsAsked`), the
+-- search has found this source. Sources in singleton blocks need not be found.
 abbrev pub FindsLookedUp : Option ℕ → Grouped → List ℕ → List ℕ → ℕ → Type 0
 FindsLookedUp block l of found t = (p : ℕ) → p < length l.places → target_of (place_at l.places p) ≡ t
     → IsAsked block l of p → IsFoundOrSingleton of found (source_of (place_at l.places p))
