@@ -1,6 +1,6 @@
 -- Proofs about the states that a round does not process. If such a state is not in a singleton block, then none of its
 -- transitions leads to a new block, which is a block that the last split has made.
-use Rattle.std.proofs.Common.{rules, Bool, eqb, leb, ◌&&◌, ◌∙◌, ◌≡◌, ◌⊎◌, ℕ, ◌<◌, ◌≤◌, length, slice_index, sym, subst}
+use Rattle.std.proofs.Common.{rules, Bool, eqb, leb, ◌&&◌, ◌∙◌, ◌≡◌, ◌⊎◌, ℕ, ◌<◌, ◌≤◌, length, slice_index, subst}
 use Rattle.std.proofs.Common.{ap, refl, inl, inr, arith}
 use Rattle.std.proofs.Math.Logic.{⊎_map}
 use Rattle.std.specs.List.{list_any}
@@ -10,15 +10,14 @@ use Rattle.std.proofs.lemmas.List.{get_or_default}
 use Rattle.std.proofs.lemmas.List.Elements.{All-contains}
 use Rattle.std.proofs.lemmas.List.Folds.{Any-from_list_any, list_any_at}
 use Rattle.theory.specs.declared.relation.Relation.{Relation}
-use Rattle.theory.specs.declared.relation.Relation.TheVariants.{Strong, Branching}
+use Rattle.theory.specs.declared.relation.Relation.TheVariants.{Strong}
 use Rattle.lts.specs.Lts.{Grouped, Triple, IsTriple, IsLts, source_of, target_of, place_at, system_of}
 use Rattle.partition.specs.Splitting.{IsSingleton}
 use Rattle.partition.specs.Blocks.{RoundBlocks, IsMember}
 use Rattle.refine_core.specs.Signatures.{Signed}
-use Rattle.refine_core.specs.Index.{SearchIndex, SearchIsComplete, IsFoundOrSingleton, reach_of}
+use Rattle.refine_core.specs.Index.{SearchIsComplete, IsFoundOrSingleton, reach_of}
 use Rattle.refine_core.specs.IndexState.{AreAllActiveOrIndexed, AreAllActive, MayBuildIndex}
 use Rattle.refine_core.specs.Shown.{IsUnaffected}
-use Rattle.refine_core.specs.declared.signed_blocks.IndexState.TheVariants.{Absent, Searched, Pending}
 use Rattle.refine_core.proofs.ActiveStates.{StepsAreRow, no_step, step_at}
 
 -- `AreUnaffected` holds if each state is active (processed by the round), is in a singleton block, or has no transition

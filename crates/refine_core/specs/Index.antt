@@ -2,7 +2,7 @@
 -- while the search is in progress. The search looks up transitions in the predecessor index, which has, for each state,
 -- the transitions that lead to this state. The place of a transition is its index in the list of all transitions.
 use Rattle.std.specs.Prelude.{◌≡◌, ◌⊎◌, ℕ, ◌+◌, ◌<◌, ◌≤◌, ◌==◌, Bool, true, false, IsTrue, List, length}
-use Rattle.std.specs.Prelude.{slice_index, slice_index_or, Option, None, Some}
+use Rattle.std.specs.Prelude.{slice_index, slice_index_or, Option, None, Some, IfSome}
 use Rattle.std.specs.List.{All, IsDistinct}
 use Rattle.theory.specs.System.{internal}
 use Rattle.theory.specs.declared.relation.Relation.{Relation}
@@ -91,12 +91,18 @@ abbrev pub ranges_of : Option ℕ → Entries → List (ℕ × ℕ)
 ranges_of None x = x.all
 ranges_of (Some b) x = x.internal
 
--- `FindsLookedUp` holds if the search has looked up the transitions to the state t, and has found the sources that it
--- looks for. The first argument is `None` or the block of t. For `None`, these are the sources of all transitions to t.
--- For a block, they are the sources of the inert transitions to t.
+-- `IsAsked` holds for the transition at the place (index) p if the search has to find its source. The argument `block`
+-- is `None` or a block. For `None`, the search has to find each source. For a block, it has to find the sources in this
+-- block of internal transitions.
+abbrev pub IsAsked : Option ℕ → Grouped → List ℕ → ℕ → Type 0
+IsAsked block l of p = IfSome block (λ b. text_of l.labels (label_of (place_at l.places p)) ≡ internal)
+    × IfSome block (λ b. slice_index of (source_of (place_at l.places p)) ≡ b)
+
+-- `FindsLookedUp` holds if, for each transition to the state t whose source the search has to find (`IsAsked`), the
+-- search has found this source. Sources in singleton blocks need not be found.
 abbrev pub FindsLookedUp : Option ℕ → Grouped → List ℕ → List ℕ → ℕ → Type 0
-FindsLookedUp None l of found t = FindsSources l of found t
-FindsLookedUp (Some b) l of found t = FindsInertSources l of found t
+FindsLookedUp block l of found t = (p : ℕ) → p < length l.places → target_of (place_at l.places p) ≡ t
+    → IsAsked block l of p → IsFoundOrSingleton of found (source_of (place_at l.places p))
 
 -- `IsNotLookedUp` holds if no transition to the state t was visited. A visit is a counted read of a transition, and
 -- `visited` has the places (indices) of the visited transitions.
