@@ -26,14 +26,6 @@ abbrev pub AreUnaffected : Grouped → RoundBlocks → Type 0
 AreUnaffected l p = (s : ℕ) → s < l.states → IsMember p.active s ⊎ IsSingleton p.block_ids s
     ⊎ IsUnaffected (system_of l) (slice_index p.block_ids) p.first_new s
 
--- Suppose that each state is active (processed by the round), is in a singleton block, or has no transition. Then each
--- state is active, is in a singleton block, or has no transition to a new block, which is a block that the last split
--- has made.
-pub all_active_unaffected : (l : Grouped) → ((s : ℕ) → StepsAreRow l s) → (p : RoundBlocks)
-    → AreAllActive l p.block_ids p.active → AreUnaffected l p
-all_active_unaffected l steps p others = λ s h. ⊎_map (λ one. one) (⊎_map (λ alone. alone)
-    (λ empty a t step. absurd (no_step l s (steps s) empty a t step))) (others s h)
-
 -- Suppose that the search for strong bisimilarity has found all states that it has to find (`SearchIsComplete`), and
 -- that these states are the active states, which the round processes. Then each state is active, is in a singleton
 -- block, or has no transition to a block that the last split has made.
