@@ -16,9 +16,9 @@ use Rattle.partition.specs.Splitting.{IsSingleton}
 use Rattle.partition.specs.Blocks.{RoundBlocks, IsMember}
 use Rattle.refine_core.specs.Signatures.{Signed}
 use Rattle.refine_core.specs.Index.{SearchIsComplete, IsFoundOrSingleton, reach_of}
-use Rattle.refine_core.specs.IndexState.{AreAllActiveOrIndexed, AreAllActive, MayBuildIndex}
+use Rattle.refine_core.specs.IndexState.{AreAllActiveOrIndexed, MayBuildIndex}
 use Rattle.refine_core.specs.Shown.{IsUnaffected}
-use Rattle.refine_core.proofs.ActiveStates.{StepsAreRow, no_step, step_at}
+use Rattle.refine_core.proofs.ActiveStates.{step_at}
 
 -- `AreUnaffected` holds if each state is active (processed by the round), is in a singleton block, or has no transition
 -- to a new block. A block is new if the last split has made it.
