@@ -127,7 +127,8 @@ impl Search {
         ensures found { OnOk result (FindsFrom lens.now s self.new (i + 1)) }
         ensures kept { OnOk result (StartsWith self.new.states self.old.states) }
         ensures size { length self.new.marked ≡ length self.old.marked }
-        ensures visits { let row = length (row_of (slice_index self.old.states i) lens.now.l.places) in
+        ensures visits { let t = slice_index self.old.states i in
+            let row = length (row_of t lens.now.l.places) in
             Visits M.counted m.old m.new result row row }
     {
         lts::rows_follow();
