@@ -68,7 +68,6 @@ pub trait Signing {
 /// Finds the states that the round processes, and computes their signatures. The split then uses these signatures to
 /// separate states of the same block. The number of visits (counted reads of transitions) equals the number of
 /// transitions. If fewer visits are needed, the function makes further visits and ignores their results.
-#[tactic(auto, using(lts::proofs::CallerLemmas::left_counts))]
 pub(crate) fn sign_each<S: Signing, M: Meter>(
     l: &Lts<M>,
     round: SignedBlocks,
@@ -92,7 +91,6 @@ pub(crate) fn sign_each<S: Signing, M: Meter>(
 /// active (processed by the round), and all blocks must count as new (`first_new` is 0). Returns the interned
 /// signatures and, for each state, the ID of its signature. The number of visits (counted reads of transitions) equals
 /// the number of transitions.
-#[tactic(auto, using(lts::proofs::CallerLemmas::left_none))]
 pub fn sign_all<S: Signing, M: Meter>(
     alloc: Global,
     l: &Lts<M>,
