@@ -24,14 +24,20 @@ use std::marker::Model;
 /// all blocks divided by `LATE_ROUND_FRACTION`. The rounds after a late round usually have few states to process.
 const LATE_ROUND_FRACTION: u32 = 4;
 
-/// The predecessor index is built after at most this number of late rounds, which are rounds in which few blocks are
-/// new. If states have many transitions, building the index takes as much time as three late rounds.
+/// The predecessor index is built as soon as the late rounds so far (rounds in which few blocks are new) have done as
+/// much work as this number of rounds that process all states. If states have many transitions, building the index takes
+/// as much time as three rounds that process all states.
 const MOST_LATE_ROUNDS: u32 = 6;
 
-/// If states have few transitions, building the predecessor index takes less time, so the index is built after fewer
-/// late rounds, which are rounds in which few blocks are new. The number of late rounds before the index is built is
-/// the average number of transitions of a state, divided by `ROW_LENGTH_PER_LATE_ROUND`.
+/// If states have few transitions, building the predecessor index takes less time, so the index is built after less work.
+/// The index is then built as soon as the late rounds so far (rounds in which few blocks are new) have done as much work
+/// as n rounds that process all states. The number n is the average number of transitions of a state, divided by
+/// `ROW_LENGTH_PER_LATE_ROUND`.
 const ROW_LENGTH_PER_LATE_ROUND: u32 = 2;
+
+/// A round without a predecessor index goes through all blocks. Going through this number of blocks takes less time than
+/// processing one state.
+const BLOCKS_PER_STATE: u32 = 8;
 
 /// Says whether the predecessor index was built, and whether it was searched for the states that the round processes.
 #[derive(Drop)]
@@ -65,7 +71,9 @@ pub struct SignedBlocks {
     /// If there is a predecessor index, and more signatures than this number are stored after a round, then all
     /// signatures are discarded.
     pub(crate) most_signatures: u32,
-    late_rounds: u32,
+    /// The work of all late rounds so far (rounds in which few blocks are new), which were made without a predecessor
+    /// index. The method `needs_index` defines the work of a round.
+    late_work: u64,
 }
 
 impl Model for SignedBlocks {
@@ -106,7 +114,7 @@ impl SignedBlocks {
             pairs: Vec::new(alloc),
             index_state: IndexState::Absent,
             most_signatures: u32::MAX,
-            late_rounds: 0,
+            late_work: 0,
         })
     }
 
@@ -180,11 +188,8 @@ impl SignedBlocks {
         Ok(self)
     }
 
-    /// A round is late if fewer than a quarter of the blocks are new (made by the last split). Let n be half of the
-    /// average number of transitions of a state (rounded down), but at most `MOST_LATE_ROUNDS`. In a late round, this
-    /// method builds the predecessor index if at least n earlier rounds were late. If the index is built, each
-    /// transition is visited (read and counted) once, and all interned signatures except the empty signature are
-    /// discarded.
+    /// Builds the predecessor index if `needs_index` says so. If the index is built, each transition is visited (read and
+    /// counted) once, and all interned signatures except the empty signature are discarded.
     pub fn begin_index<M: Meter>(
         mut self,
         l: &Lts<M>,
@@ -200,13 +205,7 @@ impl SignedBlocks {
             (λ r. HasVisited l.now.places (M.counted m.old) (M.counted m.new) r.visited) }
         ensures cost { Costs (M.counted m.old) (M.counted m.new) 0 0 (length l.now.places) }
     {
-        let count = self.blocks.count();
-        if self.blocks.first_new() <= count - count / LATE_ROUND_FRACTION {
-            return Ok(self);
-        }
-        let mean_row = l.edges() / l.states();
-        if self.late_rounds < MOST_LATE_ROUNDS.min(mean_row / ROW_LENGTH_PER_LATE_ROUND) {
-            self.late_rounds += 1;
+        if !self.needs_index(l) {
             return Ok(self);
         }
         forget(&mut self.signature_ids, self.blocks.active());
@@ -223,6 +222,32 @@ impl SignedBlocks {
             visited,
             ..self
         })
+    }
+
+    /// Returns whether this round has to build the predecessor index. A round is late if fewer than a quarter of the
+    /// blocks are new (made by the last split). The work of a late round without an index is the number of states that
+    /// it processes, plus the number of blocks divided by `BLOCKS_PER_STATE`. Let n be half of the average number of
+    /// transitions of a state (rounded down), but at most `MOST_LATE_ROUNDS`. A late round has to build the index if the
+    /// work of all late rounds before it is at least n times the number of all states. Otherwise the function adds the
+    /// work of this round to this sum.
+    ///
+    /// So the late rounds without an index do not take much more time than the index, however few states they process.
+    /// If most states are in singleton blocks, a round processes few states, and the index is built later or never.
+    fn needs_index<M: Meter>(&mut self, l: &Lts<M>) -> bool
+        ensures { self.new ≡ self.old }
+    {
+        let count = self.blocks.count();
+        if self.blocks.first_new() <= count - count / LATE_ROUND_FRACTION {
+            return false;
+        }
+        let mean_row = l.edges() / l.states();
+        let most = MOST_LATE_ROUNDS.min(mean_row / ROW_LENGTH_PER_LATE_ROUND);
+        if self.late_work / u64::from(l.states()) >= u64::from(most) {
+            return true;
+        }
+        let work = self.blocks.active().len() as u32 + count / BLOCKS_PER_STATE;
+        self.late_work = self.late_work.saturating_add(u64::from(work));
+        false
     }
 
     /// Empties the set of visited transitions. Each round calls this function at its beginning.
