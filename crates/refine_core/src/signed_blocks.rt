@@ -200,13 +200,7 @@ impl SignedBlocks {
             (λ r. HasVisited l.now.places (M.counted m.old) (M.counted m.new) r.visited) }
         ensures cost { Costs (M.counted m.old) (M.counted m.new) 0 0 (length l.now.places) }
     {
-        let count = self.blocks.count();
-        if self.blocks.first_new() <= count - count / LATE_ROUND_FRACTION {
-            return Ok(self);
-        }
-        let mean_row = l.edges() / l.states();
-        if self.late_rounds < MOST_LATE_ROUNDS.min(mean_row / ROW_LENGTH_PER_LATE_ROUND) {
-            self.late_rounds += 1;
+        if !self.needs_index(l) {
             return Ok(self);
         }
         forget(&mut self.signature_ids, self.blocks.active());
@@ -223,6 +217,23 @@ impl SignedBlocks {
             visited,
             ..self
         })
+    }
+
+    /// Returns whether this round has to build the predecessor index (`begin_index`). If the round is late and does not
+    /// have to build it, the function counts the round as a late round.
+    fn needs_index<M: Meter>(&mut self, l: &Lts<M>) -> bool
+        ensures { self.new ≡ self.old }
+    {
+        let count = self.blocks.count();
+        if self.blocks.first_new() <= count - count / LATE_ROUND_FRACTION {
+            return false;
+        }
+        let mean_row = l.edges() / l.states();
+        if self.late_rounds < MOST_LATE_ROUNDS.min(mean_row / ROW_LENGTH_PER_LATE_ROUND) {
+            self.late_rounds += 1;
+            return false;
+        }
+        true
     }
 
     /// Empties the set of visited transitions. Each round calls this function at its beginning.
@@ -252,29 +263,27 @@ impl SignedBlocks {
         ensures cost { Costs (M.counted m.old) (M.counted m.new) 0 0 (length l.now.places) }
     {
         let index_state = self.index_state;
-        match index_state {
-            index_state @ (IndexState::Absent | IndexState::Searched(_)) => Ok(SignedBlocks {
+        let IndexState::Pending(predecessors) = index_state else {
+            return Ok(SignedBlocks {
                 index_state,
                 ..self
-            }),
-            IndexState::Pending(predecessors) => {
-                let (predecessors, active) = predecessors.search_back(
-                    self.alloc,
-                    l,
-                    &self.blocks,
-                    &mut self.visited,
-                    m,
-                )?;
-                self.signatures.invariants();
-                forget(&mut self.signature_ids, self.blocks.active());
-                let blocks = self.blocks.with_active(active);
-                Ok(SignedBlocks {
-                    blocks,
-                    index_state: IndexState::Searched(predecessors),
-                    ..self
-                })
-            }
-        }
+            });
+        };
+        let (predecessors, active) = predecessors.search_back(
+            self.alloc,
+            l,
+            &self.blocks,
+            &mut self.visited,
+            m,
+        )?;
+        self.signatures.invariants();
+        forget(&mut self.signature_ids, self.blocks.active());
+        let blocks = self.blocks.with_active(active);
+        Ok(SignedBlocks {
+            blocks,
+            index_state: IndexState::Searched(predecessors),
+            ..self
+        })
     }
 
     /// Splits the blocks. Two states of a block stay together if `signature_ids` has the same ID for both. If there is
@@ -286,12 +295,10 @@ impl SignedBlocks {
         ensures { IfOk result (IsSplitOf l.now self) }
     {
         self.signatures.invariants();
-        let signatures = self.signatures.len();
-        let blocks = self
-            .blocks
-            .split(self.alloc, signatures, &self.signature_ids)?;
+        let stored = self.signatures.len();
+        let blocks = self.blocks.split(self.alloc, stored, &self.signature_ids)?;
         let index_state = self.index_state;
-        let round = SignedBlocks {
+        let mut round = SignedBlocks {
             blocks,
             index_state: IndexState::Absent,
             ..self
@@ -299,14 +306,11 @@ impl SignedBlocks {
         match index_state {
             IndexState::Absent => Ok(round),
             IndexState::Searched(predecessors) | IndexState::Pending(predecessors) => {
-                if round.signatures.len() > round.most_signatures {
-                    let next = activate_all(round, predecessors, l)?;
-                    return Ok(next);
+                if stored > round.most_signatures {
+                    return activate_all(round, predecessors, l);
                 }
-                Ok(SignedBlocks {
-                    index_state: IndexState::Pending(predecessors),
-                    ..round
-                })
+                round.index_state = IndexState::Pending(predecessors);
+                Ok(round)
             }
         }
     }
