@@ -19,8 +19,8 @@ use Rattle.signatures.specs.Lists.{list_at, Grow, pair_cmp}
 use Rattle.partition.specs.Blocks.{AreActive, InactiveHaveNone}
 use Rattle.inert.specs.Signed.{HasPair, IsSignature, pair_under}
 use Rattle.refine_core.specs.Signatures.{list_of}
-use Rattle.refine_core.specs.Shown.{HasNewBlock, IsStrongSplitSignature, IsUnaffected}
-use Rattle.refine_core.proofs.Showing.{unaffected_as_before, affected_changed}
+use Rattle.refine_core.specs.Shown.{HasNewBlock, IsStrongSplitSignature}
+use Rattle.refine_core.proofs.Showing.{IsUnaffected, unaffected_as_before, affected_changed}
 
 -- `StepsAreRow` holds if the definition `Step` agrees with the row of the state s, which is the list of the stored
 -- transitions from s. There must be a step from s to t with the label a if and only if the row has a transition to t

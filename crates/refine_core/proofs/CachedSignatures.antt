@@ -24,25 +24,25 @@ use Rattle.refine_core.specs.Cached.{IsListOf}
 use Rattle.refine_core.proofs.Showing.{Labelled, equal_represented, label_id_of}
 use Rattle.refine_core.proofs.ActiveStates.{StepsAreRow, no_step}
 
--- Suppose that only the empty signature is interned, and that its ID is cached for each state. Suppose also that each
--- state is active (processed by the round), is in a singleton block, or has an empty signature. For strong
--- bisimilarity, suppose moreover that all blocks count as new (`first_new` is 0). Then the data of the round is ready
--- for computing signatures, as if no round had run (`IsReadyToSign`).
+-- Suppose that each state is active (processed by the round), is in a singleton block, or has an empty signature. For
+-- branching bisimilarity, suppose also that only the empty signature is interned, and that its ID is cached for each
+-- state. For strong bisimilarity, suppose that all blocks count as new (`first_new` is 0). Then the data of the round is
+-- ready for computing signatures, as if no round had run (`IsReadyToSign`).
 pub ready_discarded : (rel : Relation) (l : Grouped) (r : Signed) → length r.blocks.block_ids ≡ l.states
-    → HasNoSignatures r.blocks.block_ids r.signatures r.cached → (rel ≡ Strong → r.blocks.first_new ≡ 0)
-    → OthersKeepSignatures rel l None r.blocks → IsReadyToSign rel l None r
+    → (rel ≡ Branching → HasNoSignatures r.blocks.block_ids r.signatures r.cached)
+    → (rel ≡ Strong → r.blocks.first_new ≡ 0) → OthersKeepSignatures rel l None r.blocks → IsReadyToSign rel l None r
 ready_discarded rel l r size discarded first others = record {
   split = tt;
   others = others;
   follows = first;
-  cached = λ branching. record {
+  cached = λ branching. let discarded = discarded branching in record {
     states = discarded.states ∙ size;
     signature_ids = search (rules, get_or_default, discarded.empty, discarded.only);
     each = λ s h. inr (rw (ap (list_at r.signatures) (discarded.empty s)
         ∙ ap (λ signatures. list_at signatures 0) discarded.only)
         (rising_none pair_cmp, λ k b. (λ c. absurd (omega (arith, c.1)), λ h. absurd h.1)));
   };
-  empty = λ branching none. discarded.empty;
+  empty = λ branching none. (discarded branching).empty;
 }
 
 -- If the branching signature of a state is empty, then its branching signature in the last round was empty, too.

@@ -6,4 +6,3 @@ pub use Rattle.refine_core.proofs.ActiveStates.{row_signature}
 pub use Rattle.refine_core.proofs.Signatures.{Splits-signatures}
 pub use Rattle.refine_core.proofs.Finding.{none_marked, marked_more, found_few}
 pub use Rattle.refine_core.proofs.IndexStates.{none_visited}
-pub use Rattle.refine_core.proofs.CachedSignatures.{ready_discarded}

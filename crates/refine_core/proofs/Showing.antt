@@ -5,7 +5,7 @@
 use Rattle.std.proofs.Common.{◌≡◌, ◌↔◌, ℕ, List, Option, None, Some, slice_index, subst, sym, arith, ◌⊎◌, ◌∙◌, ◌<◌, ◌≤◌}
 use Rattle.std.proofs.Common.{[], length, refl, inl, inr}
 use Rattle.std.proofs.lemmas.Grind.{common_steps}
-use Rattle.theory.specs.System.{Step, IsSystem}
+use Rattle.theory.specs.System.{System, Step, IsSystem}
 use Rattle.theory.specs.declared.relation.Relation.{Relation}
 use Rattle.theory.specs.declared.relation.Relation.TheVariants.{Strong, Branching}
 use Rattle.theory.specs.Blocks.{SameSignature, Split}
@@ -19,7 +19,6 @@ use Rattle.partition.specs.Blocks.{IsMember, InactiveHaveNone}
 use Rattle.inert.specs.Signed.{IsSignature}
 use Rattle.refine_core.specs.Cached.{IsListOf}
 use Rattle.refine_core.specs.Shown.{Was, IsAsBefore, IsSplitSignature, IsStrongSplitSignature, Follows, WasSplit}
-use Rattle.refine_core.specs.Shown.{IsUnaffected}
 use Rattle.refine_core.specs.Signatures.{Signed, list_of}
 use Rattle.refine_core.specs.IndexState.{IsReadyToSign, SignsEach}
 
@@ -129,6 +128,11 @@ pub follows_split : (rel : Relation) (l : Grouped) (old : Option (List ℕ)) (of
     → Follows rel l old of low → WasSplit rel l old of
 follows_split rel l None of low follows = tt
 follows_split rel l (Some old) of low follows = follows.split
+
+-- `IsUnaffected` holds if no transition of the state s leads to a new block. A block is new if its ID is at least
+-- `first_new`.
+abbrev pub IsUnaffected : System → (ℕ → ℕ) → ℕ → ℕ → Type 0
+IsUnaffected A blocks first_new s = (a : List ℕ) (t : ℕ) → Step A s a t → blocks t < first_new
 
 -- Suppose that no transition of the state s leads to a new block, which is a block that the last split has made. Then
 -- the strong signature of s is the same as in the last round.

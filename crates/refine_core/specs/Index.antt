@@ -4,6 +4,7 @@
 use Rattle.std.specs.Prelude.{◌≡◌, ◌⊎◌, ℕ, ◌+◌, ◌<◌, ◌≤◌, ◌==◌, Bool, true, false, IsTrue, List, length}
 use Rattle.std.specs.Prelude.{slice_index, slice_index_or, Option, None, Some, IfSome}
 use Rattle.std.specs.List.{All, IsDistinct}
+use Rattle.std.specs.Io.{StartsWith}
 use Rattle.theory.specs.System.{internal}
 use Rattle.theory.specs.declared.relation.Relation.{Relation}
 use Rattle.theory.specs.declared.relation.Relation.TheVariants.{Strong, Branching}
@@ -49,29 +50,36 @@ IsInner reach l of p = (reach ≡ Back)
 abbrev pub IsSearchIndex : Grouped → List ℕ → SearchIndex → Type 0
 IsSearchIndex l of e = IsIndex l (IsInner e.reach l of) e.index
 
+-- `HasIndex` holds if the list `of` has the block ID of each state of the system `l`, and if `e` has a predecessor index
+-- of this system (`IsSearchIndex`). A search in this index goes back along transitions as far as `reach` says.
+pub record HasIndex (reach : Reach) (l : Grouped) (of : List ℕ) (e : SearchIndex) : Type 0 where
+  pub states : length of ≡ l.states
+  pub index : IsSearchIndex l of e
+  pub reach_is : e.reach ≡ reach
+
 -- `IsFoundOrSingleton` holds if the search has found the state s, or if s is in a singleton block.
 abbrev pub IsFoundOrSingleton : List ℕ → List ℕ → ℕ → Type 0
 IsFoundOrSingleton of found s = IsMember found s ⊎ IsSingleton of s
 
--- `FindsSources` holds if the search has found the source of each transition to the state t. Sources in singleton
--- blocks need not be found.
-abbrev pub FindsSources : Grouped → List ℕ → List ℕ → ℕ → Type 0
-FindsSources l of found t = (k : ℕ) → k < length l.places → target_of (place_at l.places k) ≡ t
-    → IsFoundOrSingleton of found (source_of (place_at l.places k))
+-- `IsAsked` holds for the transition at the place (index) p if the search has to find its source. The argument `block`
+-- is `None` or a block. For `None`, the search has to find each source. For a block, it has to find the sources in this
+-- block of internal transitions.
+abbrev pub IsAsked : Option ℕ → Grouped → List ℕ → ℕ → Type 0
+IsAsked block l of p = IfSome block (λ b. text_of l.labels (label_of (place_at l.places p)) ≡ internal)
+    × IfSome block (λ b. slice_index of (source_of (place_at l.places p)) ≡ b)
 
--- `FindsInertSources` holds if the search has found the source of each inert transition to the state t. A transition is
--- inert if it is internal and its source is in the block of its target. Sources in singleton blocks need not be found.
-abbrev pub FindsInertSources : Grouped → List ℕ → List ℕ → ℕ → Type 0
-FindsInertSources l of found t = (k : ℕ) → k < length l.places → target_of (place_at l.places k) ≡ t
-    → text_of l.labels (label_of (place_at l.places k)) ≡ internal
-    → slice_index of (source_of (place_at l.places k)) ≡ slice_index of t
-    → IsFoundOrSingleton of found (source_of (place_at l.places k))
+-- `FindsSources` holds if, for each transition to the state t whose source the search has to find (`IsAsked`), the
+-- search has found this source. If `block` is the block of t, these are the sources of the inert transitions to t: the
+-- internal transitions that do not leave their block. Sources in singleton blocks need not be found.
+abbrev pub FindsSources : Option ℕ → Grouped → List ℕ → List ℕ → ℕ → Type 0
+FindsSources block l of found t = (p : ℕ) → p < length l.places → target_of (place_at l.places p) ≡ t
+    → IsAsked block l of p → IsFoundOrSingleton of found (source_of (place_at l.places p))
 
 -- `FindsNew` is the condition on a state t of a new block, which is a block that the last split has made. It holds if
 -- the search has found the sources of all transitions to t. If the search goes back along inert transitions, the search
 -- must also have found t itself. States in singleton blocks need not be found.
 abbrev pub FindsNew : Reach → Grouped → List ℕ → List ℕ → ℕ → Type 0
-FindsNew reach l of found t = FindsSources l of found t × (reach ≡ Back → IsFoundOrSingleton of found t)
+FindsNew reach l of found t = FindsSources None l of found t × (reach ≡ Back → IsFoundOrSingleton of found t)
 
 -- `SearchIsComplete` holds if the search has found all states that it has to find. A block is new if the last split has
 -- made it, and otherwise it is old. For each state t of a new block, the search must have found the states that
@@ -81,7 +89,13 @@ pub record SearchIsComplete (reach : Reach) (l : Grouped) (p : RoundBlocks) (fou
   pub new : (t : ℕ) → t < length p.block_ids → p.first_new ≤ slice_index p.block_ids t
       → FindsNew reach l p.block_ids found t
   pub back : reach ≡ Back → (t : ℕ) → IsMember found t → slice_index p.block_ids t < p.first_new
-      → FindsInertSources l p.block_ids found t
+      → FindsSources (Some (slice_index p.block_ids t)) l p.block_ids found t
+
+-- `AreFound` holds if the list `found` has the states that a complete search has found (`SearchIsComplete`), in
+-- strictly ascending order.
+pub record AreFound (reach : Reach) (l : Grouped) (p : RoundBlocks) (found : List ℕ) : Type 0 where
+  pub ascending : AreActive l.states found
+  pub complete : SearchIsComplete reach l p found
 
 -- Returns, for each state, the range of the entries that the search looks up in the predecessor index `x`. The first
 -- argument is `None` or a block. For `None`, the range has the entries of all transitions to the state. For a block,
@@ -91,23 +105,20 @@ abbrev pub ranges_of : Option ℕ → Entries → List (ℕ × ℕ)
 ranges_of None x = x.all
 ranges_of (Some b) x = x.internal
 
--- `IsAsked` holds for the transition at the place (index) p if the search has to find its source. The argument `block`
--- is `None` or a block. For `None`, the search has to find each source. For a block, it has to find the sources in this
--- block of internal transitions.
-abbrev pub IsAsked : Option ℕ → Grouped → List ℕ → ℕ → Type 0
-IsAsked block l of p = IfSome block (λ b. text_of l.labels (label_of (place_at l.places p)) ≡ internal)
-    × IfSome block (λ b. slice_index of (source_of (place_at l.places p)) ≡ b)
-
--- `FindsLookedUp` holds if, for each transition to the state t whose source the search has to find (`IsAsked`), the
--- search has found this source. Sources in singleton blocks need not be found.
-abbrev pub FindsLookedUp : Option ℕ → Grouped → List ℕ → List ℕ → ℕ → Type 0
-FindsLookedUp block l of found t = (p : ℕ) → p < length l.places → target_of (place_at l.places p) ≡ t
-    → IsAsked block l of p → IsFoundOrSingleton of found (source_of (place_at l.places p))
-
 -- `IsNotLookedUp` holds if no transition to the state t was visited. A visit is a counted read of a transition, and
 -- `visited` has the places (indices) of the visited transitions.
 abbrev pub IsNotLookedUp : List Triple → List ℕ → ℕ → Type 0
 IsNotLookedUp places visited t = All (λ k. ¬ (target_of (place_at places k) ≡ t)) visited
+
+-- `HasLookedUp` holds if the search has looked up the entries for the transitions to the state t, and no others. The
+-- search had found the states in `before` and had visited the places in `old` before these lookups. Afterwards, it has
+-- found the states in `found`, among them the sources for which it asks (`FindsSources`), and has visited the places in
+-- `visited`.
+pub record HasLookedUp (block : Option ℕ) (l : Grouped) (of : List ℕ) (t : ℕ) (before found old visited : List ℕ) :
+    Type 0 where
+  pub more : StartsWith found before
+  pub sources : FindsSources block l of found t
+  pub others : (s : ℕ) → ¬ (s ≡ t) → IsNotLookedUp l.places old s → IsNotLookedUp l.places visited s
 
 -- `HasVisited` is about visits (counted reads) of transitions, and `visited` has the places (indices) of the visited
 -- transitions. It holds if the meter has counted one visit for each place in `visited`, and no round. No place may be
@@ -128,6 +139,12 @@ pub record AreMarked (marks : List Bool) (found : List ℕ) : Type 0 where
   pub all : (s : ℕ) → IsTrue (slice_index_or marks s false) → IsMember found s
   pub once : IsDistinct (λ s t. s == t) found
 
+-- `MarksFound` holds if each of the `states` states has a mark, and if the marked states are exactly the states that the
+-- search has found so far.
+pub record MarksFound (states : ℕ) (at : Affected) : Type 0 where
+  pub size : length at.marks.items ≡ states
+  pub marked : AreMarked at.marks.items at.states.items
+
 -- `SearchIsOn` holds while a search is in progress. The meter had the counts `start` when the search began, and now has
 -- the counts `now`. The record `at` has the predecessor index, the marks of the states, and the states that were found
 -- so far. The list `xs` has the places (indices) of the transitions that were visited so far.
@@ -135,14 +152,12 @@ pub record SearchIsOn (l : Grouped) (of : List ℕ) (reach : Reach) (start now :
     Type 0 where
   pub blocks : length of ≡ l.states
   pub index : IsSearchIndex l of (record { index = at.incoming; reach = reach })
-  pub size : length at.marks.items ≡ l.states
-  pub marked : AreMarked at.marks.items at.states.items
+  pub marked : MarksFound (length of) at
   pub visited : HasVisited l.places start now xs
   pub room : HasRoomFor start 0 (length l.places)
 
--- `ReadsUnder` holds if `of` has a block ID for each state, and if `active` is a list of states in strictly ascending
--- order. A round needs both facts in order to read the transitions of the active states, which are the states that it
--- processes.
-pub record ReadsUnder (l : Grouped) (of active : List ℕ) : Type 0 where
+-- `ReadsRows` holds if `of` has a block ID for each state, and if `visited` has the places (indices) of transitions that
+-- were visited in this round. A round needs both facts in order to read the transitions of a state.
+pub record ReadsRows (l : Grouped) (of visited : List ℕ) : Type 0 where
   pub states : length of ≡ l.states
-  pub ascending : AreActive l.states active
+  pub are : AreVisited l.places visited

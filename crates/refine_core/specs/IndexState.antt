@@ -12,7 +12,7 @@ use Rattle.inert.specs.Signed.{IsSignature}
 use Rattle.refine_core.specs.Signatures.{Signed, list_of, HasNoSignatures}
 use Rattle.refine_core.specs.Shown.{Follows, WasSplit, IsAsBefore, IsSplitSignature}
 use Rattle.refine_core.specs.Cached.{CachesIds}
-use Rattle.refine_core.specs.Index.{SearchIndex, IsSearchIndex, SearchIsComplete, reach_of}
+use Rattle.refine_core.specs.Index.{SearchIndex, HasIndex, SearchIsComplete, reach_of}
 use Rattle.refine_core.specs.declared.predecessors.Reach.{Reach}
 use Rattle.refine_core.specs.declared.signed_blocks.IndexState.{IndexState}
 use Rattle.refine_core.specs.declared.signed_blocks.IndexState.TheVariants.{Absent, Searched, Pending}
@@ -29,19 +29,14 @@ abbrev pub OthersKeepSignatures : Relation → Grouped → Option (List ℕ) →
 OthersKeepSignatures rel l old p = (s : ℕ) → s < l.states → IsMember p.active s ⊎ IsSingleton p.block_ids s
     ⊎ IsAsBefore rel l old p.block_ids s
 
--- `HasIndex` holds if `e` has a predecessor index of the system `l`. A search in this index must go back along
--- transitions as far as the relation `rel`, strong or branching bisimilarity, requires (`reach_of`).
-pub record HasIndex (rel : Relation) (l : Grouped) (of : List ℕ) (e : SearchIndex) : Type 0 where
-  pub index : IsSearchIndex l of e
-  pub reach : e.reach ≡ reach_of rel
-
--- `AreAllActiveOrIndexed` holds if there is a predecessor index of the system `l` (`HasIndex`). It also holds if there
+-- `AreAllActiveOrIndexed` holds if there is a predecessor index of the system `l` (`HasIndex`). A search in this index
+-- must go back along transitions as far as the relation `rel` requires (`reach_of`). The condition also holds if there
 -- is no predecessor index, and if each state is active (processed by the round), is in a singleton block, or has no
 -- transition.
 abbrev pub AreAllActiveOrIndexed : IndexState → Relation → Grouped → RoundBlocks → Type 0
 AreAllActiveOrIndexed Absent rel l p = AreAllActive l p.block_ids p.active
-AreAllActiveOrIndexed (Searched e) rel l p = HasIndex rel l p.block_ids e
-AreAllActiveOrIndexed (Pending e) rel l p = HasIndex rel l p.block_ids e
+AreAllActiveOrIndexed (Searched e) rel l p = HasIndex (reach_of rel) l p.block_ids e
+AreAllActiveOrIndexed (Pending e) rel l p = HasIndex (reach_of rel) l p.block_ids e
 
 -- `Restarts` holds if the next round processes all states again, without any signatures of earlier rounds. All
 -- signatures except the empty signature must have been discarded. Each state must be active (processed by the round),
@@ -84,16 +79,22 @@ pub record IsReadyToSign (rel : Relation) (l : Grouped) (old : Option (List ℕ)
   pub cached : rel ≡ Branching → CachesIds l r.blocks.block_ids r.signatures r.cached old
   pub empty : rel ≡ Branching → old ≡ None → (s : ℕ) → slice_index r.cached s ≡ 0
 
--- `IsBegun` holds if r, the data of a round (`Signed`), is ready for computing the signatures of the active states,
--- which are the states that the round processes (`IsReadyToSign`). The round started with the blocks `p`, and only the
--- active states may differ from those in `p`. If there is a predecessor index, it must be an index of the system `l`.
--- If there is no predecessor index, all states must be active unless their signatures cannot change a block
--- (`AreAllActiveOrIndexed`). The list `old` has the block IDs in the last round.
-pub record IsBegun (rel : Relation) (l : Grouped) (p : RoundBlocks) (r : Signed) : Type 0 where
+-- `IsInRound` is about r, the data of a round (`Signed`) that has begun. The round started with the blocks `p`, and only
+-- the active states (the states that the round processes) may differ from those in `p`. If there is a predecessor
+-- index, it must be an index of the system `l`, and otherwise all states must be active unless their signatures cannot
+-- change a block (`AreAllActiveOrIndexed`). The list `old` has the block IDs in the last round, and the condition `At`
+-- must hold for it and r.
+pub record IsInRound (At : Relation → Grouped → Option (List ℕ) → Signed → Type 0) (rel : Relation) (l : Grouped)
+    (p : RoundBlocks) (r : Signed) : Type 0 where
   pub old : Option (List ℕ)
   pub blocks : r.blocks ≡ record p { active = r.blocks.active }
   pub index : AreAllActiveOrIndexed r.index_state rel l r.blocks
-  pub ready : IsReadyToSign rel l old r
+  pub is : At rel l old r
+
+-- `IsBegun` holds if a round that started with the blocks `p` is ready for computing the signatures of its active
+-- states.
+abbrev pub IsBegun : Relation → Grouped → RoundBlocks → Signed → Type 0
+IsBegun rel l p r = IsInRound IsReadyToSign rel l p r
 
 -- `HasBuiltIndex` holds if the predecessor index was built. The data of the round is p before the index was built, and
 -- r afterwards. Afterwards, no signature except the empty signature may be interned.
@@ -104,8 +105,7 @@ pub record HasBuiltIndex (l : Grouped) (reach : Reach) (p r : Signed) : Type 0 w
   pub signatures : r.signatures ≡ [] ∷ []
   pub search_index : SearchIndex
   pub index_state : r.index_state ≡ Searched search_index
-  pub reach_is : search_index.reach ≡ reach
-  pub index : IsSearchIndex l r.blocks.block_ids search_index
+  pub index : HasIndex reach l r.blocks.block_ids search_index
 
 -- `MayBuildIndex` holds if the data r of the round equals its earlier data p, or results from p by building the
 -- predecessor index.
@@ -120,23 +120,16 @@ pub record HasSearched (l : Grouped) (p r : Signed) : Type 0 where
   pub pending : p.index_state ≡ Pending was
   pub search_index : SearchIndex
   pub index_state : r.index_state ≡ Searched search_index
-  pub reach : search_index.reach ≡ was.reach
-  pub index : IsSearchIndex l r.blocks.block_ids search_index
+  pub index : HasIndex was.reach l r.blocks.block_ids search_index
   pub blocks : r.blocks ≡ record p.blocks { active = r.blocks.active }
-  pub found : SearchIsComplete search_index.reach l r.blocks r.blocks.active
+  pub found : SearchIsComplete was.reach l r.blocks r.blocks.active
   pub signatures : r.signatures ≡ p.signatures
   pub cached : r.cached ≡ p.cached
-
--- `IsNotPending` holds if no search of the predecessor index is pending.
-abbrev pub IsNotPending : IndexState → Type 0
-IsNotPending Absent = Unit {0}
-IsNotPending (Searched e) = Unit {0}
-IsNotPending (Pending e) = ⊥
 
 -- `SearchesIfPending` holds if the data r of the round results from its earlier data p by making the pending search of
 -- the predecessor index (`HasSearched`), or if no search is pending in p and r equals p.
 abbrev pub SearchesIfPending : Grouped → Signed → Signed → Type 0
-SearchesIfPending l p r = (IsNotPending p.index_state × (r ≡ p)) ⊎ HasSearched l p r
+SearchesIfPending l p r = (((e : SearchIndex) → ¬ (p.index_state ≡ Pending e)) × (r ≡ p)) ⊎ HasSearched l p r
 
 -- `MayDropSingletons` holds if the data r of the round equals its earlier data p, or results from p by dropping some
 -- states in singleton blocks from the active states (the states that the round processes). If states are dropped, there
@@ -162,14 +155,17 @@ pub record SignsEach (rel : Relation) (l : Grouped) (old : Option (List ℕ)) (r
       → IsSignature rel l r.blocks.block_ids s (list_of r.signatures r.signature_ids s)
   pub cached : rel ≡ Branching → CachesIds l r.blocks.block_ids r.signatures r.cached (Some r.blocks.block_ids)
 
--- `IsSignedRound` holds if r is the data of a round (`Signed`) after the signatures of the active states, which are the
--- states that the round processes, were computed (`SignsEach`). The round started with the blocks `p`, and only the
--- active states may differ from those in `p`. The list `old` has the block IDs in the last round.
-pub record IsSignedRound (rel : Relation) (l : Grouped) (p : RoundBlocks) (r : Signed) : Type 0 where
-  pub old : Option (List ℕ)
-  pub blocks : r.blocks ≡ record p { active = r.blocks.active }
-  pub index : AreAllActiveOrIndexed r.index_state rel l r.blocks
-  pub signs : SignsEach rel l old r
+-- `SignsRound` holds if r results from p by computing the signatures of the active states. The blocks and the
+-- predecessor index must be the same. If p was ready for computing the signatures, whatever the blocks of the last round
+-- were, then the signatures in r must be correct (`SignsEach`).
+pub record SignsRound (rel : Relation) (l : Grouped) (p r : Signed) : Type 0 where
+  pub blocks : r.blocks ≡ p.blocks
+  pub index_state : r.index_state ≡ p.index_state
+  pub signs : (old : Option (List ℕ)) → IsReadyToSign rel l old p → SignsEach rel l old r
+
+-- `IsSignedRound` holds if a round that started with the blocks `p` has computed the signatures of its active states.
+abbrev pub IsSignedRound : Relation → Grouped → RoundBlocks → Signed → Type 0
+IsSignedRound rel l p r = IsInRound SignsEach rel l p r
 
 -- `AwaitsSearch` holds if, after a split, the next round has to begin with a search for the states that it processes.
 -- The data of the round is p before the split, and q after the split. The interned signatures and the cached signatures

@@ -4,7 +4,6 @@
 -- the blocks of the last round.
 use Rattle.std.specs.Prelude.{◌≡◌, ◌⊎◌, ◌↔◌, ℕ, ◌<◌, ◌≤◌, List, [], slice_index, Option, None, Some}
 use Rattle.std.specs.List.{Contains}
-use Rattle.theory.specs.System.{System, Step}
 use Rattle.theory.specs.declared.relation.Relation.{Relation}
 use Rattle.theory.specs.declared.relation.Relation.TheVariants.{Strong}
 use Rattle.theory.specs.Blocks.{Signature, Split}
@@ -50,11 +49,6 @@ Follows rel l (Some old) of first_new = IsLastSplit rel l old of first_new
 abbrev pub WasSplit : Relation → Grouped → Option (List ℕ) → List ℕ → Type 0
 WasSplit rel l None of = Unit {0}
 WasSplit rel l (Some old) of = Split rel (system_of l) (slice_index old) (slice_index of)
-
--- `IsUnaffected` holds if no transition of the state s leads to a new block. A block is new if its ID is at least
--- `first_new`.
-abbrev pub IsUnaffected : System → (ℕ → ℕ) → ℕ → ℕ → Type 0
-IsUnaffected A blocks first_new s = (a : List ℕ) (t : ℕ) → Step A s a t → blocks t < first_new
 
 -- `HasNewBlock` holds if at least one pair in the list `pairs` contains the ID of a new block. A block is new if its ID
 -- is at least `first_new`.

@@ -231,8 +231,8 @@ impl SignedBlocks {
     /// work of all late rounds before it is at least n times the number of all states. Otherwise the function adds the
     /// work of this round to this sum.
     ///
-    /// So the late rounds without an index do not take much more time than the index, however few states they process.
-    /// If most states are in singleton blocks, a round processes few states, and the index is built later or never.
+    /// So all late rounds without an index take about as much time together as building the index. If most states are
+    /// in singleton blocks, a round processes few states, and the index is built later or never.
     fn needs_index<M: Meter>(&mut self, l: &Lts<M>) -> bool
         ensures { self.new ≡ self.old }
     {
@@ -277,29 +277,27 @@ impl SignedBlocks {
         ensures cost { Costs (M.counted m.old) (M.counted m.new) 0 0 (length l.now.places) }
     {
         let index_state = self.index_state;
-        match index_state {
-            index_state @ (IndexState::Absent | IndexState::Searched(_)) => Ok(SignedBlocks {
+        let IndexState::Pending(predecessors) = index_state else {
+            return Ok(SignedBlocks {
                 index_state,
                 ..self
-            }),
-            IndexState::Pending(predecessors) => {
-                let (predecessors, active) = predecessors.search_back(
-                    self.alloc,
-                    l,
-                    &self.blocks,
-                    &mut self.visited,
-                    m,
-                )?;
-                self.signatures.invariants();
-                forget(&mut self.signature_ids, self.blocks.active());
-                let blocks = self.blocks.with_active(active);
-                Ok(SignedBlocks {
-                    blocks,
-                    index_state: IndexState::Searched(predecessors),
-                    ..self
-                })
-            }
-        }
+            });
+        };
+        let (predecessors, active) = predecessors.search_back(
+            self.alloc,
+            l,
+            &self.blocks,
+            &mut self.visited,
+            m,
+        )?;
+        self.signatures.invariants();
+        forget(&mut self.signature_ids, self.blocks.active());
+        let blocks = self.blocks.with_active(active);
+        Ok(SignedBlocks {
+            blocks,
+            index_state: IndexState::Searched(predecessors),
+            ..self
+        })
     }
 
     /// Splits the blocks. Two states of a block stay together if `signature_ids` has the same ID for both. If there is
@@ -311,12 +309,10 @@ impl SignedBlocks {
         ensures { IfOk result (IsSplitOf l.now self) }
     {
         self.signatures.invariants();
-        let signatures = self.signatures.len();
-        let blocks = self
-            .blocks
-            .split(self.alloc, signatures, &self.signature_ids)?;
+        let stored = self.signatures.len();
+        let blocks = self.blocks.split(self.alloc, stored, &self.signature_ids)?;
         let index_state = self.index_state;
-        let round = SignedBlocks {
+        let mut round = SignedBlocks {
             blocks,
             index_state: IndexState::Absent,
             ..self
@@ -324,14 +320,11 @@ impl SignedBlocks {
         match index_state {
             IndexState::Absent => Ok(round),
             IndexState::Searched(predecessors) | IndexState::Pending(predecessors) => {
-                if round.signatures.len() > round.most_signatures {
-                    let next = activate_all(round, predecessors, l)?;
-                    return Ok(next);
+                if stored > round.most_signatures {
+                    return activate_all(round, predecessors, l);
                 }
-                Ok(SignedBlocks {
-                    index_state: IndexState::Pending(predecessors),
-                    ..round
-                })
+                round.index_state = IndexState::Pending(predecessors);
+                Ok(round)
             }
         }
     }

@@ -3,14 +3,14 @@
 ghost use Rattle.std.specs.Prelude.{◌≡◌, ◌<◌, List, ℕ, Option, [], length, IfOk};
 ghost use Rattle.theory.specs.declared.relation.Relation.{Relation};
 ghost use Rattle.theory.specs.declared.relation.Relation.TheVariants.{Branching as branching};
-ghost use Rattle.lts.specs.Meter.{HasRoomFor, Costs, Visits};
+ghost use Rattle.lts.specs.Meter.{HasRoomFor, Costs, Visits, on_ok};
 ghost use Rattle.lts.specs.Visited.{AreVisited, remaining_of};
 ghost use Rattle.signatures.specs.Lists.{AreIds};
 ghost use Rattle.partition.specs.Blocks.{IsMember};
 ghost use Rattle.inert.specs.Signed.{IsSignature};
 ghost use Rattle.refine_core.specs.Signatures.{HasNoSignatures, list_of};
 ghost use Rattle.refine_core.specs.Index.{HasVisited};
-ghost use Rattle.refine_core.specs.IndexState.{Awaits, IsBegun, IsReadyToSign, SignsEach, IsSignedRound};
+ghost use Rattle.refine_core.specs.IndexState.{Awaits, IsBegun, IsReadyToSign, SignsEach, SignsRound, IsSignedRound};
 ghost use Rattle.refine_core.specs.declared.signed_blocks.IndexState.TheVariants.{Absent};
 
 use crate::signed_blocks::{IndexState, SignedBlocks};
@@ -81,10 +81,8 @@ pub(crate) fn sign_each<S: Signing, M: Meter>(
     ensures visits { let n = length l.now.places in Visits M.counted m.old m.new result n n }
 {
     let before = m.visits();
-    let searched = begin_round::<S, M>(l, round, m)?;
-    let signed = S::sign(l, searched, m)?;
-    visit_rest(l, before, m);
-    Ok(signed)
+    let begun = begin_round::<S, M>(l, round, m)?;
+    sign_and_visit_rest::<S, M>(l, begun, before, m)
 }
 
 /// Computes the signature of each state with respect to the given blocks, as if no round had run. All states must be
@@ -111,12 +109,40 @@ pub fn sign_all<S: Signing, M: Meter>(
     // Always
     ensures visits { let n = length l.now.places in Visits M.counted m.old m.new result n n }
 {
-    let start = m.visits();
+    let before = m.visits();
     let round = S::discard_cached(SignedBlocks::new(alloc, blocks)?)?;
-    let signed = S::sign(l, round, m)?;
-    visit_rest(l, start, m);
+    let signed = sign_and_visit_rest::<S, M>(l, round, before, m)?;
     signed.invariants();
     Ok(signed.into_signatures())
+}
+
+/// Computes the signatures of the active states, which are the states that the round processes. Then makes further
+/// visits (counted reads of transitions) and ignores their results, until the number of visits in this round equals the
+/// number of transitions. The meter had counted `before` visits when the round began.
+fn sign_and_visit_rest<S: Signing, M: Meter>(
+    l: &Lts<M>,
+    round: SignedBlocks,
+    before: u128,
+    m: &mut M,
+) -> Result<SignedBlocks, Memory>
+    requires states { length round.blocks.block_ids ≡ l.now.states }
+    requires ready { (old : Option (List ℕ)) × IsReadyToSign S.relation l.now old round }
+    requires visited { let start = record (M.counted m.old) { visits = before } in
+        HasVisited l.now.places start (M.counted m.old) round.visited }
+    requires room { let start = record (M.counted m.old) { visits = before } in
+        HasRoomFor start 0 (length l.now.places) }
+
+    // On success
+    ensures signed { IfOk result (SignsRound S.relation l.now round) }
+
+    // Always
+    ensures visits { let n = length l.now.places in
+        let start = record (M.counted m.old) { visits = before } in
+        Costs start (M.counted m.new) 0 (on_ok result n) n }
+{
+    let signed = S::sign(l, round, m)?;
+    visit_rest(l, before, m);
+    Ok(signed)
 }
 
 /// Begins a round. If there is no predecessor index, the function calls `Signing::begin`. If a search of the index is

@@ -6,13 +6,13 @@ ghost use Rattle.std.specs.Vec.{vec_len, vec_capacity};
 ghost use Rattle.theory.specs.declared.relation.Relation.TheVariants.{Strong as strong};
 ghost use Rattle.lts.specs.Meter.{HasRoomFor, Costs, Visits};
 ghost use Rattle.lts.specs.Lts.{row_of};
-ghost use Rattle.lts.specs.Visited.{AreVisited, remaining_of};
+ghost use Rattle.lts.specs.Visited.{remaining_of};
 ghost use Rattle.signatures.specs.Lists.{list_at, Grow};
-ghost use Rattle.partition.specs.Blocks.{IsMember, InactiveHaveNone};
+ghost use Rattle.partition.specs.Blocks.{IsMember, HaveSignatureIds};
 ghost use Rattle.inert.specs.Signed.{pair_under};
 ghost use Rattle.refine_core.specs.Signatures.{list_of, HaveSignatures};
 ghost use Rattle.refine_core.specs.Shown.{HasNewBlock, IsStrongSplitSignature};
-ghost use Rattle.refine_core.specs.Index.{ReadsUnder};
+ghost use Rattle.refine_core.specs.Index.{ReadsRows};
 
 use crate::predecessors::Reach;
 use crate::signed_blocks::SignedBlocks;
@@ -71,11 +71,10 @@ fn sign_active<M: Meter>(
     signature_ids: &mut Vec<u32>,
     m: &mut M,
 ) -> Result<(), Memory>
-    requires under { ReadsUnder under.now.l.now under.now.block_ids.now active.now }
-    requires visited { AreVisited under.now.l.now.places visited.now }
+    requires reads { ReadsRows under.now.l.now under.now.block_ids.now visited.now }
     requires signatures { signatures.old ≡ [] ∷ [] }
-    requires signature_ids { (length signature_ids.old.items ≡ under.now.l.now.states)
-        × InactiveHaveNone active.now signature_ids.old.items }
+    requires signature_ids { HaveSignatureIds under.now.l.now.states active.now
+        signature_ids.old.items }
     requires room { HasRoomFor (M.counted m.old) 0
         (length (remaining_of visited.now under.now.l.now.places)) }
     ensures signed { OnOk result ((s : ℕ) → IsMember active.now s →
@@ -112,8 +111,7 @@ fn intern_signature<M: Meter>(
     signatures: &mut Interner,
     m: &mut M,
 ) -> Result<u32, Memory>
-    requires states { length under.now.block_ids.now ≡ under.now.l.now.states }
-    requires visited { AreVisited under.now.l.now.places visited.now }
+    requires reads { ReadsRows under.now.l.now under.now.block_ids.now visited.now }
     requires state { s < under.now.l.now.states }
     requires room { HasRoomFor (M.counted m.old) 0
         (length (row_of s (remaining_of visited.now under.now.l.now.places))) }
@@ -145,8 +143,7 @@ fn read_unvisited<M: Meter>(
     pairs: &mut Vec<(u32, u32)>,
     m: &mut M,
 ) -> Result<bool, Memory>
-    requires states { length under.now.block_ids.now ≡ under.now.l.now.states }
-    requires visited { AreVisited under.now.l.now.places visited.now }
+    requires reads { ReadsRows under.now.l.now under.now.block_ids.now visited.now }
     requires state { s < under.now.l.now.states }
     requires room { HasRoomFor (M.counted m.old) 0
         (length (row_of s (remaining_of visited.now under.now.l.now.places))) }

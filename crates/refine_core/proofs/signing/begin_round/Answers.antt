@@ -1,4 +1,4 @@
-use Rattle.std.proofs.Common.{rules, ◌≡◌, ◌∙◌, sym, ap, subst}
+use Rattle.std.proofs.Common.{◌≡◌, ◌∙◌, sym, ap, subst}
 use Rattle.std.proofs.lemmas.Result.{IfOk-weaker}
 use Rattle.refine_core.specs.Index.{IsSearchIndex}
 use Rattle.refine_core.specs.declared.signed_blocks.IndexState.TheVariants.{Absent}
@@ -15,21 +15,17 @@ pub begin-requires-clause-ready_for_round : goal.begin-requires-clause-ready_for
 begin-requires-clause-ready_for_round g c = rw c.clear_visited-round.ensures
     (awaits_cleared g.S.Signing.relation c.args.l.now c.args.round c.requires.ready_for_round)
 
--- If there is a predecessor index, the contract of `begin_round` holds after the search in this index.
-pub returns-in_default : goal.returns-in_default
-returns-in_default g c =
+-- If there is a predecessor index, the round has begun after the search in this index.
+pub returns-in_default-clause-begun : goal.returns-in_default-clause-begun
+returns-in_default-clause-begun g c =
     let l = c.args.l.now in
     let o = c.args.round in
     let some : ¬ (o.index_state ≡ Absent) = λ absent.
     c.in_default.not-Absent (ap (λ r. r.index_state) (c.round.view_is ∙ c.clear_visited-round.ensures) ∙ absent) in
-    record {
-      begun = IfOk-weaker c.find_active.result _ _
-          (λ r by. searched l c.invariants.ensures (c.rows_are_steps.ensures.steps l) o r c.requires.states some
-          g.S.Signing.relation by c.requires.ready_for_round)
-          (rw c.clear_visited-round.ensures at c.find_active.ensures.found);
-      visited = search rules;
-      cost = search rules;
-    }
+    IfOk-weaker c.find_active.result _ _
+    (λ r by. searched l c.invariants.ensures (c.rows_are_steps.ensures.steps l) o r c.requires.states some
+    g.S.Signing.relation by c.requires.ready_for_round)
+    (rw c.clear_visited-round.ensures at c.find_active.ensures.found)
 
 pub returns-clause-begun : goal.returns-clause-begun
 returns-clause-begun g c = rw c.clear_visited-round.ensures at c.begin.ensures.begun

@@ -32,7 +32,7 @@ loop-i-preserved g c =
     let i = c.loop-i.i in
     let inv = c.loop-i.invariant in
     let done = c.in_ok-signature_ids.ensures in
-    let rises = c.requires.under.ascending in
+    let rises = c.requires.signature_ids.ascending in
     record {
       put = signed_more c.intern_signature.ensures.grow rises inv.states (more g d) inv.put done.within done.put;
       states = length-set _ _ _ ∙ inv.states;
@@ -67,6 +67,6 @@ returns-clause-signature_ids g c =
     record {
       each = λ s d h. subst (λ x. x < length c.loop-i.signatures) (get_or_default _ s 0 d h)
           (grind (arith, inv.none s h, inv.put, inv.some));
-      states = inv.states ∙ sym c.requires.under.states;
+      states = inv.states ∙ sym c.requires.reads.states;
       none = inv.none;
     }

@@ -1,4 +1,4 @@
-use Rattle.std.proofs.Common.{rules, ◌∙◌, [], length, ap, sym, inr, arith}
+use Rattle.std.proofs.Common.{rules, ◌∙◌, length, ap, sym, inr, arith}
 use Rattle.refine_core.proofs.Signatures.{emptied}
 use Rattle.refine_core.proofs.IndexStates.{none_visited}
 use Rattle.refine_core.proofs.signed_blocks.SignedBlocks.begin_index.Goals as goal
@@ -11,16 +11,13 @@ invariant_of-result g c =
     rw (c.in_ok-blocks.ensures) (
       emptied (omega (arith, ap length c.in_ok-self-inside.ensures)) c.forget.ensures.empty c.forget.ensures.states
           c.self.invariant.0.states,
-      (c.in_ok-predecessors.ensures.index []).entries.ranges.size ∙ sym c.requires.states
-          ∙ ap (λ r. length r.blocks.block_ids) (sym c.self.view_is),
+      (c.in_ok-predecessors.ensures.index _ c.requires.states).index.entries.ranges.size ∙ sym c.requires.states
+          ∙ ap (λ r. length r.blocks.block_ids) (sym (c.self.view_is ∙ c.needs_index.ensures)),
     )
 
-pub returns-then-first_new-count-clause-visited : goal.returns-then-first_new-count-clause-visited
-returns-then-first_new-count-clause-visited g c = none_visited _ _ _ c.requires.none
-
-pub returns-then-self-min-clause-visited : goal.returns-then-self-min-clause-visited
-returns-then-self-min-clause-visited g c =
-    none_visited _ _ _ (ap (λ r. r.visited) c.self.view_is ∙ c.requires.none)
+pub returns-then-not-needs_index-clause-visited : goal.returns-then-not-needs_index-clause-visited
+returns-then-not-needs_index-clause-visited g c =
+    none_visited _ _ _ (ap (λ r. r.visited) c.needs_index.ensures ∙ c.requires.none)
 
 pub returns-clause-begins : goal.returns-clause-begins
 returns-clause-begins g c = inr (record {
@@ -30,6 +27,5 @@ returns-clause-begins g c = inr (record {
   signatures = search rules;
   search_index = c.in_ok-predecessors.predecessors;
   index_state = search rules;
-  reach_is = c.in_ok-predecessors.ensures.reach;
-  index = c.in_ok-predecessors.ensures.index _;
+  index = c.in_ok-predecessors.ensures.index _ (search rules);
 })

@@ -5,7 +5,11 @@ use Rattle.refine_core.proofs.Showing.{strong_signs}
 use Rattle.refine_core.proofs.strong.StrongSigning.sign.Goals as goal
 
 pub sign_active-requires-clause-signature_ids : goal.sign_active-requires-clause-signature_ids
-sign_active-requires-clause-signature_ids g c = (search rules, rw (c.active.ensures.active) c.round.invariant.0.none)
+sign_active-requires-clause-signature_ids g c = record {
+  size = search rules;
+  ascending = search rules;
+  none = rw (c.active.ensures.active) c.round.invariant.0.none;
+}
 
 pub invariant_of-round : goal.invariant_of-round
 invariant_of-round g c = (
