@@ -278,10 +278,8 @@ impl SignedBlocks {
     {
         let index_state = self.index_state;
         let IndexState::Pending(predecessors) = index_state else {
-            return Ok(SignedBlocks {
-                index_state,
-                ..self
-            });
+            self.index_state = index_state;
+            return Ok(self);
         };
         let (predecessors, active) = predecessors.search_back(
             self.alloc,

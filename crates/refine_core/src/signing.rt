@@ -109,9 +109,9 @@ pub fn sign_all<S: Signing, M: Meter>(
     // Always
     ensures visits { let n = length l.now.places in Visits M.counted m.old m.new result n n }
 {
-    let before = m.visits();
+    let start = m.visits();
     let round = S::discard_cached(SignedBlocks::new(alloc, blocks)?)?;
-    let signed = sign_and_visit_rest::<S, M>(l, round, before, m)?;
+    let signed = sign_and_visit_rest::<S, M>(l, round, start, m)?;
     signed.invariants();
     Ok(signed.into_signatures())
 }

@@ -13,8 +13,8 @@ returns-in_default g c = record {
 pub forget-requires-clause-none : goal.forget-requires-clause-none
 forget-requires-clause-none g c = rw (c.active.ensures.active) c.self.invariant.0.none
 
-pub invariant_of-result-2 : goal.invariant_of-result-2
-invariant_of-result-2 g c =
+pub invariant_of-result : goal.invariant_of-result
+invariant_of-result g c =
     rw c.with_active-blocks.ensures.same (
       emptied c.invariants.ensures.some c.forget.ensures.empty c.forget.ensures.states c.self.invariant.0.states,
       c.in_ok-predecessors.ensures.index.index.entries.ranges.size ∙ sym c.requires.states
