@@ -12,7 +12,7 @@ use Rattle.buckets.specs.declared.TheConstants.{MOST_ENTRIES}
 use Rattle.buckets.specs.Buckets.{tag_at, IsLast}
 use Rattle.buckets.specs.declared.chains.TheConstants.{NO_ENTRY}
 use Rattle.buckets.specs.Chains.{tags_of, bucket_of_tag, entry_at, entry_bucket, AreBuckets, AreChained}
-use Rattle.buckets.proofs.Chaining.{Chained-push}
+use Rattle.buckets.proofs.Chaining.{IsChained-push}
 use Rattle.std.proofs.Math.ListN as plain
 
 pub tag_is : (entries : List Entry) (r : ℕ) → tag_at (tags_of entries) r ≡ (entry_at entries r).tag
@@ -64,9 +64,11 @@ AreBuckets-push heads entries new b is few in' low at_b head =
       none = search (rules, map-append, get_or_append_left, length-map, is.none, is.some);
       tags = grind (arith, common_steps, All-same, new.tag, map-append, All-push, is.tags);
       chained =
-          Chained-push NO_ENTRY (λ x. x.before) (entry_bucket entries heads) (entry_bucket all (set heads b count))
-          entries heads new b is.chained is.some in'
-          (λ r p h. rw (size, get_or_append_left)) (rw (size, get_or_push entries new NO_ENTRY count refl, at_b)) head;
+          let here = get_or_push entries new NO_ENTRY count refl in
+          rw longer (IsChained-push count (entry_bucket entries heads) (λ r. (entry_at entries r).before)
+          (entry_bucket all (set heads b count)) (λ r. (entry_at all r).before) heads b is.chained is.some in'
+          (λ r p h. rw (size, get_or_append_left)) (λ r h. rw get_or_append_left) (rw (size, here, at_b))
+          (rw (here, head)));
     }
 
 -- `Rechained` is about the loop of the function `chain`, which puts each entry into the chain that links the entries in

@@ -8,15 +8,12 @@ use Rattle.std.proofs.lemmas.Bool.{cases_eq, cases_lt}
 use Rattle.signatures.specs.Lists.{list_at, merged, Grow, HasOne}
 use Rattle.signatures.specs.Extensions.{ShareNone, extension_at, IsExtension, extended, extended_lists, OneHas, HasBase}
 use Rattle.signatures.specs.Extensions.{HasExtra}
-use Rattle.std.proofs.lemmas.List.{get_or-map, get_or_append_left, get_or-append_right}
-use Rattle.signatures.proofs.Merging.{merged_has}
+use Rattle.std.proofs.lemmas.List.{length-map, get_or_append_left, get_or-append_right}
+use Rattle.signatures.proofs.Numbering.{has_either}
 
 own_or_not : (own : Option ℕ) (base : ℕ) → (own ≡ Some base) ⊎ ¬ (own ≡ Some base)
 own_or_not None base = search rules
 own_or_not (Some own) base = search (rules, cases_eq own base)
-
-own_is : (own : Option ℕ) (base other : ℕ) → IfSome own (λ b. b ≡ base) → (own ≡ Some other) → other ≡ base
-own_is own base other h e = grind arith
 
 -- A list is stored as a base, which is a list of pairs that several lists can share, and as extra pairs, which the base
 -- lacks. A pair is in at least one of several lists if and only if it is in the base of one of these lists, or is an
@@ -25,27 +22,22 @@ own_is own base other h e = grind arith
 module _ (trie : List (List (ℕ × ℕ))) (extensions : List (ℕ × List (ℕ × ℕ))) (ids : List ℕ)
     (known : All (λ k. k < length extensions) ids)
     (own : Option ℕ) (z : ℕ × ℕ) where
-  at : (j : ℕ) → j < length ids → let x = extension_at extensions (slice_index ids j) in
-      Contains (list_at (extended_lists trie extensions) (slice_index ids j)) z
-      ↔ (Contains (list_at trie x.0) z ⊎ Contains x.1 z)
-  at j low =
-      let x = extension_at extensions (slice_index ids j) in
-      rw (get_or-map (extended trie) extensions _ (0, []) [] (known j 0 low)) (merged_has z (list_at trie x.0) x.1)
-
   pub all_have : HasOne (extended_lists trie extensions) ids z
       ↔ (HasBase trie extensions ids z ⊎ (HasExtra extensions ids
       (λ b. ¬ (own ≡ Some b)) z ⊎ HasExtra extensions ids (λ b. own ≡ Some b) z))
-  all_have = (
-    λ (j, low, has).
-        let parts = (at j low).0 has in
-        let is = own_or_not own (extension_at extensions (slice_index ids j)).0 in
-        search rules,
-    λ o. elim o [
-      | inl h ↦ (h.0, h.1, (at h.0 h.1).1 (inl h.2))
-      | inr (inl h) ↦ (h.0, h.1, (at h.0 h.1).1 (inr h.2.1))
-      | inr (inr h) ↦ (h.0, h.1, (at h.0 h.1).1 (inr h.2.1))
-    ],
-  )
+  all_have =
+      let at = λ (j : ℕ) (low : j < length ids). let k = slice_index ids j in
+      has_either trie extensions refl k (rw length-map (known j 0 low)) (extension_at extensions k) refl z in (
+        λ (j, low, has). let is = own_or_not own (extension_at extensions (slice_index ids j)).0 in
+            search (rules, at j low),
+        λ o. elim o [
+          | inl h ↦ search (rules, at h.0 h.1)
+          | inr o ↦ elim o [
+            | inl h ↦ search (rules, at h.0 h.1)
+            | inr h ↦ search (rules, at h.0 h.1)
+          ]
+        ],
+      )
 
 -- The union of several lists and of some pairs is computed in several steps, each of which adds some pairs to the
 -- result. If each step is correct, the result has exactly the pairs of the union.
@@ -65,12 +57,10 @@ pub joined_apart : (old trie : List (List (ℕ × ℕ))) (extensions : List (ℕ
 joined_apart old trie extensions ids base own left pairs is_base grow each known apart merged z d e =
     elim ((merged z).0 e) [
       | inl l ↦ apart z d l
-      | inr h ↦
-          let (j, low, has) = h in
+      | inr (j, low, has) ↦
           let is = each (slice_index ids j) (0, []) (known j 0 low) in
-          let x = extension_at extensions (slice_index ids j) in
-          is.apart z (subst (λ l. Contains l z)
-          (ap (list_at trie) (sym (own_is own base x.0 is_base has.0)) ∙ grow.same x.0 is.base) d) has.1
+          let same : (extension_at extensions (slice_index ids j)).0 ≡ base = grind arith in
+          is.apart z (rw (← grow.same _ is.base, same) d) has.1
     ]
 
 -- Suppose that `all` is the list xs followed by the list ys. Then P holds for an ID in `all` if and only if it holds

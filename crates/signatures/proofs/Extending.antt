@@ -2,12 +2,10 @@
 -- lacks. The fingerprint of the list (a hash of 64 bits) is the sum of the fingerprints of its base and of its extra
 -- pairs, modulo 2^64.
 use Rattle.std.proofs.Common.{rules, ◌≡◌, ◌∙◌, ℕ, ◌+◌, ◌%◌, ◌^◌, List, [], ◌∷◌, ◌++◌, Contains, Less, Equal, Greater}
-use Rattle.std.proofs.Common.{ap, sym, subst, refl, inl, inr, arith, sum_by, IsPermutation, is_eq, Ordering}
+use Rattle.std.proofs.Common.{ap, sym, subst, refl, inl, inr, arith, sum_by, is_eq, Ordering}
 use Rattle.std.specs.List.Sorted.{IsStrictlySortedBy}
 use Rattle.std.specs.Ordering.{match_ordering}
-use Rattle.std.proofs.lemmas.List.Sums.{sum_by-append}
-use Rattle.std.proofs.lemmas.List.Sorted.{IsPermutation-refl, IsPermutation-cons, IsPermutation-trans}
-use Rattle.std.proofs.lemmas.List.Sorted.{IsPermutation-middle, sum_by-IsPermutation}
+use Rattle.std.proofs.lemmas.List.Sums.{sum_by-cons}
 use Rattle.signatures.specs.Lists.{pair_cmp, merged}
 use Rattle.buckets.specs.Hashing.{hash_of}
 use Rattle.signatures.specs.Hashed.{fingerprint_of}
@@ -26,30 +24,30 @@ at_order P Less a b c f g h = f refl
 at_order P Equal a b c f g h = g refl
 at_order P Greater a b c f g h = h refl
 
--- If two lists have no pair in common, their merge is a permutation of the first list followed by the second list.
-permuted_cons : (x : ℕ × ℕ) (xs : List (ℕ × ℕ)) → ((ys : List (ℕ × ℕ)) → ShareNone xs ys →
-    IsPermutation (xs ++ ys) (merged xs ys))
-    → (ys : List (ℕ × ℕ)) → ShareNone (x ∷ xs) ys → IsPermutation ((x ∷ xs) ++ ys) (merged (x ∷ xs) ys)
-permuted_cons x xs h [] apart = search rules
-permuted_cons x xs h (y ∷ ys) apart =
-    at_order (IsPermutation ((x ∷ xs) ++ (y ∷ ys))) (pair_cmp x y) _ _ _
-    (λ e. IsPermutation-cons x (xs ++ y ∷ ys) (merged xs (y ∷ ys)) (h (y ∷ ys) (λ z d. apart z (there x xs z d))))
+-- If two lists have no pair in common, the sum of the hashes of the pairs of their merge is the sum of the hashes of
+-- the pairs of both lists.
+sum_cons : (x : ℕ × ℕ) (xs : List (ℕ × ℕ)) → ((ys : List (ℕ × ℕ)) → ShareNone xs ys →
+    sum_by hash_of (merged xs ys) ≡ sum_by hash_of xs + sum_by hash_of ys) → (ys : List (ℕ × ℕ))
+    → ShareNone (x ∷ xs) ys → sum_by hash_of (merged (x ∷ xs) ys) ≡ sum_by hash_of (x ∷ xs) + sum_by hash_of ys
+sum_cons x xs h [] apart = omega arith
+sum_cons x xs h (y ∷ ys) apart =
+    let first = sum_by-cons hash_of x in
+    let second = sum_by-cons hash_of y in
+    at_order (λ l. sum_by hash_of l ≡ sum_by hash_of (x ∷ xs) + sum_by hash_of (y ∷ ys)) (pair_cmp x y) _ _ _
+    (λ e. omega (arith, first xs, first (merged xs (y ∷ ys)), h (y ∷ ys) (λ z d. apart z (there x xs z d))))
     (λ e. absurd (apart y (subst (Contains (x ∷ xs)) ((pair_Decides x y).0 (ap is_eq e)) (here x xs)) (here y ys)))
     (λ e.
-    IsPermutation-trans _ _ _ (IsPermutation-middle (x ∷ xs) y ys)
-    (IsPermutation-cons y ((x ∷ xs) ++ ys) (merged (x ∷ xs) ys)
-    (permuted_cons x xs h ys (λ z d e. apart z d (there y ys z e)))))
+    omega (arith, second ys, second (merged (x ∷ xs) ys), sum_cons x xs h ys (λ z d e. apart z d (there y ys z e))))
 
-pub merged_permutes : (xs ys : List (ℕ × ℕ)) → ShareNone xs ys → IsPermutation (xs ++ ys) (merged xs ys)
-merged_permutes [] ys apart = IsPermutation-refl ys
-merged_permutes (x ∷ xs) ys apart = permuted_cons x xs (merged_permutes xs) ys apart
+sum_merged : (xs ys : List (ℕ × ℕ)) → ShareNone xs ys →
+    sum_by hash_of (merged xs ys) ≡ sum_by hash_of xs + sum_by hash_of ys
+sum_merged [] ys apart = omega arith
+sum_merged (x ∷ xs) ys apart = sum_cons x xs (sum_merged xs) ys apart
 
 pub fingerprint_merged : (xs ys : List (ℕ × ℕ)) → ShareNone xs ys
     → (fingerprint_of xs + fingerprint_of ys) % 2 ^ 64 ≡ fingerprint_of (merged xs ys)
 fingerprint_merged xs ys apart =
-    sym (add-mod (sum_by hash_of xs) (sum_by hash_of ys) (2 ^ 64))
-    ∙ ap (λ n. n % 2 ^ 64) (sym (sum_by-IsPermutation hash_of (xs ++ ys) (merged xs ys) (merged_permutes xs ys apart)
-    ∙ sum_by-append hash_of xs ys))
+    sym (add-mod (sum_by hash_of xs) (sum_by hash_of ys) (2 ^ 64)) ∙ ap (λ n. n % 2 ^ 64) (sym (sum_merged xs ys apart))
 
 -- Suppose that a list has exactly the pairs of two other lists, and that all three lists are in strictly ascending
 -- order. Then the first list is the merge of the other two lists.

@@ -3,7 +3,7 @@
 -- show that the first and the last pair of the list determine its split point. They also show when two interned lists
 -- are the halves of a list, and that the IDs of these two halves are unique.
 use Rattle.std.proofs.Common.{rules, ◌≡◌, ◌∙◌, ℕ, ◌-◌, ◌<◌, ◌≤◌, List, [], ◌++◌, length, get_or, Contains, ap, sym}
-use Rattle.std.proofs.Common.{refl, arith}
+use Rattle.std.proofs.Common.{refl, inl, inr, arith, min, max}
 use Rattle.std.specs.List.Sorted.{IsStrictlySortedBy}
 use Rattle.std.proofs.lemmas.List.{length-append, get_or_default}
 use Rattle.std.proofs.lemmas.List.Elements.{Contains-get_or}
@@ -12,6 +12,8 @@ use Rattle.signatures.specs.Lists.{pair_cmp, list_at}
 use Rattle.signatures.specs.Cuts.{pair_value, Fit, IsCutPoint, IsAlike, IsCut, IsParted}
 use Rattle.signatures.specs.Nodes.{AreStored, AreHalvesIn}
 use Rattle.signatures.specs.Hashed.{AreDifferent}
+use Rattle.signatures.specs.Unions.{Unites}
+use Rattle.std.proofs.lemmas.Bool.{cases_lt}
 use Rattle.signatures.proofs.Cuts.{alike_within, cut_unique}
 use Rattle.signatures.proofs.Keys.{rising_keys, key_from_less, below_has, above_has}
 use Rattle.signatures.proofs.Rising.{rising_unique}
@@ -63,16 +65,30 @@ module _ (list : List (ℕ × ℕ)) (rise : IsStrictlySortedBy pair_cmp list) (f
         let between = keys_between z d in (omega arith, omega arith));
   }
 
-  pub IsCut-place : (bit c : ℕ) → IsCutPoint bit low high c → IsCut list c
-  IsCut-place bit c place =
-      let after = place.after in
-      let within = place.within in
+-- Suppose that the numbers `low` and `high` determine the split point of a list (`HasEnds`), which is the number that
+-- divides the list into two halves. Then the split point of the range from `low` to `high` is the split point of the
+-- list (`IsCut`).
+pub IsCut-ends : {list : List (ℕ × ℕ)} {low high bit c : ℕ} → HasEnds list low high → IsCutPoint bit low high c →
+    IsCut list c
+IsCut-ends {list} {low} {high} {bit} {c} ends place =
+    search (rules, ends.alike bit low high c place, ends.before, ends.after, place.after, place.within)
+
+-- Suppose that the numbers `low` and `high` determine the split point of the list xs, and that `low'` and `high'`
+-- determine the split point of the list ys (`HasEnds`). Then the least and the greatest of these four numbers determine
+-- the split point of the union of xs and ys.
+pub HasEnds-union : {list xs ys : List (ℕ × ℕ)} {low high low' high' : ℕ} → HasEnds xs low high
+    → HasEnds ys low' high' → Unites list xs ys → HasEnds list (min low low') (max high high')
+HasEnds-union {list} {xs} {ys} {low} {high} {low'} {high'} first second unites = record {
+  before = search (rules, cases_lt low low', first.before, second.before, unites first.before.0, unites second.before.0);
+  after = search (rules, cases_lt high high', first.after, second.after, unites first.after.0, unites second.after.0);
+  alike = λ bit l h c place under over.
+      let one = first.alike bit l h c place (omega arith) (omega arith) in
+      let two = second.alike bit l h c place (omega arith) (omega arith) in
       record {
-        bit = bit;
-        alike = alike_within list bit low high c place keys_between;
-        below = (get_or list 0 (0, 0), has_first, omega arith);
-        above = (get_or list (length list - 1) (0, 0), has_last, omega arith);
-      }
+        multiple = place.multiple;
+        alike = λ z d. elim ((unites z).0 d) [ inl a ↦ one.alike z a | inr b ↦ two.alike z b ];
+      };
+}
 
 -- Suppose that a list is too long to be stored whole (it has more than `MOST_WHOLE` pairs). Suppose also that its split
 -- point, which is the number that determines the two halves of the list, divides the list into two lists that are
@@ -90,10 +106,8 @@ module _ (lists : List (List (ℕ × ℕ))) (stored : AreStored lists) (differen
   halves_same g h in_g in_h e =
       let list = list_at lists h.below ++ list_at lists h.above in
       let cut : g.cut ≡ h.cut = cut_unique list g.cut h.cut (rw e at in_g.halves.at_cut) in_h.halves.at_cut in
-      let one : IsParted list g.cut (list_at lists g.below) (list_at lists g.above) =
-      record { joined = sym e; under = in_g.halves.under; over = in_g.halves.over } in
-      let two : IsParted list g.cut (list_at lists h.below) (list_at lists h.above) =
-      rw cut (record { joined = refl; under = in_h.halves.under; over = in_h.halves.over }) in
+      let one : IsParted list g.cut (list_at lists g.below) (list_at lists g.above) = search rules in
+      let two : IsParted list g.cut (list_at lists h.below) (list_at lists h.above) = search rules in
       let rise = λ (k : ℕ) (low : k < length lists). stored.rise k [] low in
       let below = different g.below h.below in_g.below in_h.below (rising_unique _ _ (rise _ in_g.below)
       (rise _ in_h.below) (λ z. grind (arith, below_has one z, below_has two z))) in

@@ -1,12 +1,12 @@
 -- A list is stored as a base, which is a list of pairs that several lists can share, and as extra pairs, which the base
 -- lacks. The table of lists has the extra pairs of all lists in one buffer. If pairs are appended to the buffer, or if
 -- a list is appended to the table, then all lists that were stored before stay the same.
-use Rattle.std.proofs.Common.{rules, ◌≡◌, ℕ, ◌+◌, ◌≤◌, List, [], ◌∷◌, ◌++◌, length, refl, arith, All, ◌-◌, drop}
+use Rattle.std.proofs.Common.{rules, ◌≡◌, ℕ, ◌+◌, ◌≤◌, List, [], ◌∷◌, ◌++◌, length, refl, arith, All, ◌-◌, drop, map}
 use Rattle.std.proofs.Common.{slice_range, length-drop, length-take, drop_at, take_all}
 use Rattle.std.proofs.lemmas.List.{map-append, drop-append-le, take-append-le}
 use Rattle.std.proofs.lemmas.List.Elements.{All-tail}
 use Rattle.signatures.specs.declared.extensions.Slot.{Slot}
-use Rattle.signatures.specs.Extensions.{all_extensions, AreSlots}
+use Rattle.signatures.specs.Extensions.{extension_in, all_extensions, AreSlots}
 
 -- If pairs are appended to a buffer, each range of the old buffer still has the same pairs, and the range after the old
 -- buffer has the appended pairs.
@@ -18,6 +18,11 @@ pub slice_range-last : (pairs more : List (ℕ × ℕ)) (end : ℕ) → end ≡ 
     slice_range (pairs ++ more) (length pairs) end ≡ more
 slice_range-last pairs more end e = search (rules, drop_at, take_all)
 
+-- If two functions have the same value at each element of a list, they map the list to the same list.
+pub map_same : {X Y : Type 0} (f g : X → Y) (xs : List X) → All (λ x. f x ≡ g x) xs → map f xs ≡ map g xs
+map_same f g [] h = refl
+map_same f g (x ∷ xs) h = rw (h 0 x (omega arith), map_same f g xs (All-tail (λ x. f x ≡ g x) x xs h))
+
 pub length-part : (pairs : List (ℕ × ℕ)) (start count : ℕ) → length (slice_range pairs start (start + count)) ≤ count
 length-part pairs start count = omega (arith, length-take (start + count - start) (drop start pairs))
 
@@ -27,10 +32,9 @@ length-part pairs start count = omega (arith, length-take (start + count - start
 module _ (pairs more : List (ℕ × ℕ)) where
   pub extensions-more : (slots : List Slot) → All (λ x. x.start + x.count ≤ length pairs) slots →
       all_extensions (pairs ++ more) slots ≡ all_extensions pairs slots
-  extensions-more [] h = refl
-  extensions-more (x ∷ xs) h =
-      let same = slice_range-append pairs more x.start (x.start + x.count) (omega arith) (h 0 x (omega arith)) in
-      rw (same, extensions-more xs (All-tail (λ (x : Slot). x.start + x.count ≤ length pairs) x xs h))
+  extensions-more slots h =
+      map_same (extension_in (pairs ++ more)) (extension_in pairs) slots (λ k d low.
+      search (rules, slice_range-append, h))
 
 -- A slot stores a list in two parts: the ID of a base, which is a list of pairs that several lists can share, and a
 -- range of a buffer, which has the pairs that the base lacks. Suppose that pairs are appended to the buffer, and that a

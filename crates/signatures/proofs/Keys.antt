@@ -3,13 +3,14 @@
 -- Then both parts are in ascending order. Conversely, suppose that two lists are in ascending order, that all pairs of
 -- the first list are less than c, and that all pairs of the second list are at least c. Then the first list followed by
 -- the second list is in ascending order.
-use Rattle.std.proofs.Common.{rules, ◌≡◌, ◌↔◌, ◌⊎◌, ℕ, ◌^◌, ◌<◌, ◌≤◌, List, [], ◌∷◌, ◌++◌, length, get_or, take}
+use Rattle.std.proofs.Common.{rules, ◌≡◌, ◌↔◌, ◌⊎◌, ℕ, ◌+◌, ◌^◌, ◌<◌, ◌≤◌, List, [], ◌∷◌, ◌++◌, length, get_or, take}
 use Rattle.std.proofs.Common.{drop, true, false, ltb, Contains, Less, ap, inl, inr, arith}
 use Rattle.std.specs.List.Sorted.{IsStrictlySortedBy, IsNonDecreasingBy, IsPartitionPoint}
 use Rattle.std.proofs.lemmas.Bool.{cases_eq}
 use Rattle.std.proofs.lemmas.List.Elements.{Contains-append_cases, Contains-append_left, Contains-append_right}
 use Rattle.std.proofs.lemmas.List.Elements.{Contains-get_or}
 use Rattle.std.proofs.lemmas.List.{places, take-append-drop, length-drop, length-append, get_or-take, get_or-drop}
+use Rattle.std.proofs.lemmas.List.{get_or-append-add}
 use Rattle.signatures.specs.Cuts.{pair_value, Fit, IsUnder, IsOver, IsCut, IsParted}
 use Rattle.signatures.specs.Lists.{pair_cmp}
 use Rattle.signatures.proofs.Rising.{pair_total, here, there, rising_cons, rising_first}
@@ -59,13 +60,14 @@ parted_is list c i within point = search (rules, take-append-drop, get_or-take, 
 
 -- If the list xs followed by the list ys is in strictly ascending order, then both xs and ys are in strictly ascending
 -- order.
-pub rising_right : (xs ys : List (ℕ × ℕ)) → IsStrictlySortedBy pair_cmp (xs ++ ys) → IsStrictlySortedBy pair_cmp ys
-rising_right [] ys rise = rise
-rising_right (x ∷ xs) ys rise = rising_right xs ys (sorted_tail pair_cmp x (xs ++ ys) rise)
-
-pub rising_left : (xs ys : List (ℕ × ℕ)) → IsStrictlySortedBy pair_cmp (xs ++ ys) → IsStrictlySortedBy pair_cmp xs
-rising_left xs ys rise =
-    sorted_from_all_adjacent pair_total xs (0, 0) (λ k low. search (rules, places, Less-from_sorted, rise))
+rising_both : (xs ys : List (ℕ × ℕ)) → IsStrictlySortedBy pair_cmp (xs ++ ys)
+    → IsStrictlySortedBy pair_cmp xs × IsStrictlySortedBy pair_cmp ys
+rising_both xs ys rise = (
+  sorted_from_all_adjacent pair_total xs (0, 0) (λ k low. search (rules, places, Less-from_sorted, rise)),
+  sorted_from_all_adjacent pair_total ys (0, 0) (λ k low.
+      rw (← get_or-append-add xs ys k (0, 0), ← get_or-append-add xs ys (k + 1) (0, 0))
+      (Less-from_sorted pair_cmp (xs ++ ys) _ _ (0, 0) rise (omega arith) (omega (arith, length-append xs ys)))),
+)
 
 -- Let a number divide a list of pairs into two parts: the pairs that are less than this number, and the other pairs. If
 -- the list is in strictly ascending order, both parts are in strictly ascending order. If the second component of each
@@ -77,10 +79,8 @@ module _ {list below above : List (ℕ × ℕ)} {c : ℕ} (parted : IsParted lis
   pub parts_both : IsStrictlySortedBy pair_cmp list → Fit list
       → (IsStrictlySortedBy pair_cmp below × Fit below) × (IsStrictlySortedBy pair_cmp above × Fit above)
   parts_both rise fit =
-      let both = rw parted.joined at rise in (
-        (rising_left below above both, λ z d. fit z ((parts_has z).1 (inl d))),
-        (rising_right below above both, λ z d. fit z ((parts_has z).1 (inr d))),
-      )
+      let both = rising_both below above (rw parted.joined at rise) in
+      ((both.0, λ z d. fit z ((parts_has z).1 (inl d))), (both.1, λ z d. fit z ((parts_has z).1 (inr d))))
 
   pub below_has : (z : ℕ × ℕ) → Contains below z ↔ (Contains list z × (pair_value z < c))
   below_has z = grind (arith, parts_has z, parted.under z, parted.over z)
@@ -91,6 +91,6 @@ module _ {list below above : List (ℕ × ℕ)} {c : ℕ} (parted : IsParted lis
   -- If a list is divided into two halves at its split point (`IsCut`), each of the two halves is shorter than the list.
   pub parts_shorter : IsCut list c → (length below < length list) × (length above < length list)
   parts_shorter cut =
-      let low = (below_has cut.below.0).1 (cut.below.1, omega (arith, cut.below.2)) in
-      let high = (above_has cut.above.0).1 (cut.above.1, omega (arith, cut.above.2)) in
-      omega (arith, ap length parted.joined, length-append below above, low.1, high.1)
+      let low = below_has cut.below.0 in
+      let high = above_has cut.above.0 in
+      grind (arith, low, high, cut.below, cut.above, parted.joined, length-append)

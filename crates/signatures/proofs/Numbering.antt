@@ -7,7 +7,7 @@ use Rattle.std.proofs.Common.{Contains, ap, sym, refl, inl, inr, arith, All}
 use Rattle.std.specs.List.Sorted.{IsStrictlySortedBy}
 use Rattle.std.proofs.lemmas.Bool.{cases_eq}
 use Rattle.std.proofs.lemmas.List.{length-map, length_push, map-append, get_or-map, get_or_append_left, nil_from_length}
-use Rattle.std.proofs.lemmas.List.Elements.{All-tail, All-push, All-weaker, All-contains, All-map}
+use Rattle.std.proofs.lemmas.List.Elements.{All-push, All-weaker, All-contains, All-map}
 use Rattle.signatures.specs.Lists.{pair_cmp, list_at, merged, AreLists, Grow, HasOne}
 use Rattle.signatures.specs.Nodes.{AreStored}
 use Rattle.signatures.specs.Hashed.{tag_of, AreDifferent, IsNewList}
@@ -17,6 +17,7 @@ use Rattle.signatures.specs.Unions.{Unites}
 use Rattle.signatures.specs.declared.nodes.TheConstants.{MOST_LISTS}
 use Rattle.signatures.specs.declared.table.Table.{Table}
 use Rattle.signatures.proofs.Joining.{Grow-same}
+use Rattle.signatures.proofs.Keeping.{map_same}
 use Rattle.signatures.proofs.Storing.{list-old, list-new}
 use Rattle.std_collections.proofs.SortedSets.{length_union}
 use Rattle.signatures.proofs.Merging.{merged_nil, merged_has, merged_rises}
@@ -37,9 +38,8 @@ module _ {old new : List (List (ℕ × ℕ))} (grow : Grow old new) where
 
   pub lists-grow : (extensions : List (ℕ × List (ℕ × ℕ))) → All (IsExtension old) extensions →
       extended_lists new extensions ≡ extended_lists old extensions
-  lists-grow [] each = refl
-  lists-grow (x ∷ xs) each =
-      rw (extended-grow x (each 0 x (omega arith)), lists-grow xs (All-tail (IsExtension old) x xs each))
+  lists-grow extensions each =
+      map_same (extended new) (extended old) extensions (λ k x low. extended-grow _ (each k x low))
 
   pub AreExtended-grow : (extensions : List (ℕ × List (ℕ × ℕ))) (tags : List ℕ) → AreExtended old extensions tags →
       AreExtended new extensions tags
@@ -63,11 +63,16 @@ module _ {old new : List (List (ℕ × ℕ))} (grow : Grow old new) where
 pub same_base : (trie : List (List (ℕ × ℕ))) (x y : ℕ × List (ℕ × ℕ)) → IsExtension trie x
     → IsExtension trie y → x.0 ≡ y.0 → (x.1 ≡ y.1) ↔ (extended trie x ≡ extended trie y)
 same_base trie x y is is' e = (
-  λ f. (λ i. merged (list_at trie (e i)) (f i)),
-  λ f.
-      let one = λ (z : ℕ × ℕ). merged_has z (list_at trie x.0) x.1 in
-      let two = λ (z : ℕ × ℕ). merged_has z (list_at trie y.0) y.1 in
-      rising_unique _ _ is.ascending is'.ascending (λ z. grind (arith, one z, two z, f, e, is.apart z, is'.apart z)),
+  λ f. cc,
+  λ f. rising_unique _ _ is.ascending is'.ascending (λ z. grind (
+    arith,
+    merged_has z (list_at trie x.0) x.1,
+    merged_has z (list_at trie y.0) y.1,
+    f,
+    e,
+    is.apart z,
+    is'.apart z,
+  )),
 )
 
 -- A list is stored as a base, which is a list of pairs that several lists can share, and as extra pairs, which the base
@@ -137,26 +142,16 @@ extended_some trie x stored different is some e =
     some (different x.0 0 is.base stored.some (nil_from_length _ (omega arith) ∙ sym stored.first))
     (nil_from_length _ (omega arith))
 
--- In the model of `Interner`, the list with the ID k is the merge of its base, which is a list of pairs that several
--- lists can share, and of its extra pairs, which the base lacks.
-pub shown_at : (trie : List (List (ℕ × ℕ))) (extensions : List (ℕ × List (ℕ × ℕ))) (lists : List (List (ℕ × ℕ))) →
-    extended_lists trie extensions ≡ lists → (k : ℕ) → k < length lists → (x : ℕ × List (ℕ × ℕ)) →
-    x ≡ extension_at extensions k → list_at lists k ≡ extended trie x
-shown_at trie extensions lists view k low x e = search (rules, get_or-map, length-map)
-
--- A list is stored as a base, which is a list of pairs that several lists can share, and as extra pairs, which the base
--- lacks. A pair is in the list if and only if it is in the base or is one of the extra pairs.
-pub has_either : (trie : List (List (ℕ × ℕ))) (x : ℕ × List (ℕ × ℕ)) (list : List (ℕ × ℕ)) → list ≡ extended trie x
-    → (z : ℕ × ℕ) → Contains list z ↔ (Contains (list_at trie x.0) z ⊎ Contains x.1 z)
-has_either trie x list is z = rw is (merged_has z (list_at trie x.0) x.1)
-
--- A list is stored as a base, which is a list of pairs that several lists can share, and as extra pairs, which the base
--- lacks. Suppose that two lists have the same base, and that all extra pairs of the second list are also extra pairs of
--- the first list. Then the first list has all pairs of the second list.
-pub base_includes : (trie : List (List (ℕ × ℕ))) (x y : ℕ × List (ℕ × ℕ)) (list other : List (ℕ × ℕ))
-    → list ≡ extended trie x → other ≡ extended trie y → x.0 ≡ y.0 → merged x.1 y.1 ≡ x.1 → Includes list other
-base_includes trie x y list other is is' e both z d =
-    search (rules, has_either trie x list is z, has_either trie y other is' z, merged_has z x.1 y.1, both)
+-- In the model of `Interner`, a list is stored as a base, which is a list of pairs that several lists can share, and as
+-- extra pairs, which the base lacks. A pair is in the list if and only if it is in the base or is one of the extra
+-- pairs.
+pub has_either : (trie : List (List (ℕ × ℕ))) (extensions : List (ℕ × List (ℕ × ℕ))) {lists : List (List (ℕ × ℕ))}
+    → extended_lists trie extensions ≡ lists → (k : ℕ) → k < length lists → (x : ℕ × List (ℕ × ℕ))
+    → x ≡ extension_at extensions k → (z : ℕ × ℕ)
+    → Contains (list_at lists k) z ↔ (Contains (list_at trie x.0) z ⊎ Contains x.1 z)
+has_either trie extensions view k low x e z =
+    let is : list_at (extended_lists trie extensions) k ≡ extended trie x = search (rules, get_or-map, length-map) in
+    rw (← view, is) (merged_has z (list_at trie x.0) x.1)
 
 -- If one of several lists has all pairs of the other lists and all pairs in `pairs`, then this list is the union of all
 -- these lists and of `pairs`.

@@ -1,7 +1,7 @@
 -- A node stores a list: a short list as a range of pairs, and a long list as the IDs of its two halves. Some lemmas say
 -- which list a node stores. Other lemmas show that the nodes stay valid if a list is appended.
 use Rattle.std.proofs.Common.{rules, ◌≡◌, ◌∙◌, ℕ, zero, suc, ◌+◌, ◌<◌, ◌≤◌, List, [], ◌∷◌, ◌++◌, length, take, ap, sym}
-use Rattle.std.proofs.Common.{subst, refl, arith, All, slice_range, length-append}
+use Rattle.std.proofs.Common.{subst, refl, arith, All, slice_range, length-append, append-nil}
 use Rattle.std.specs.List.Sorted.{IsStrictlySortedBy}
 use Rattle.std.proofs.lemmas.Bool.{cases_lt}
 use Rattle.std.proofs.lemmas.List.{length_push, get_or_append_left, get_or_push}
@@ -85,17 +85,16 @@ kept_long pairs lists new k (Whole start count) is long = search (rules, length-
 kept_long pairs lists new k (Halved h) is long = (h, is)
 
 -- A node stores a list, as a range of a buffer of pairs or as the IDs of the two halves of the list. Suppose that a
--- node is appended, and that the buffer may get more pairs, but no old range of the buffer changes. Then the list of
--- the new node is the last stored list, and all other stored lists stay the same.
-module _ (pairs pairs' : List (ℕ × ℕ)) (nodes : List Node) (new : Node) (are : AreNodes pairs nodes)
-    (longer : length pairs ≤ length pairs') (keeps : (start end : ℕ) → start ≤ end → end ≤ length pairs →
-    slice_range pairs' start end ≡ slice_range pairs start end) where
+-- node is appended, and that the buffer may get more pairs. Then the list of the new node is the last stored list, and
+-- all other stored lists stay the same.
+module _ (pairs more : List (ℕ × ℕ)) (nodes : List Node) (new : Node) (are : AreNodes pairs nodes) where
   same_list : (lists each_node : List (List (ℕ × ℕ))) (k : ℕ) (node : Node) → StoresNode pairs each_node k node →
-      list_of_node pairs' lists node ≡ list_of_node pairs lists node
-  same_list lists each_node k (Whole start count) is = keeps start (start + count) (omega arith) is.0
+      list_of_node (pairs ++ more) lists node ≡ list_of_node pairs lists node
+  same_list lists each_node k (Whole start count) is =
+      slice_range-append pairs more start (start + count) (omega arith) is.0
   same_list lists each_node k (Halved h) is = refl
 
-  to_agree : (n : ℕ) → n ≤ length nodes → lists_to pairs' (nodes ++ new ∷ []) n ≡ lists_to pairs nodes n
+  to_agree : (n : ℕ) → n ≤ length nodes → lists_to (pairs ++ more) (nodes ++ new ∷ []) n ≡ lists_to pairs nodes n
   unfolding lists_to
   to_agree zero low = refl
   to_agree (suc n) low =
@@ -103,9 +102,9 @@ module _ (pairs pairs' : List (ℕ × ℕ)) (nodes : List Node) (new : Node) (ar
       rw (to_agree n (omega arith), get_or_append_left, same)
 
   abbrev pub list : List (ℕ × ℕ)
-  list = list_of_node pairs' (lists_of_nodes pairs nodes) new
+  list = list_of_node (pairs ++ more) (lists_of_nodes pairs nodes) new
 
-  pub lists-push : lists_of_nodes pairs' (nodes ++ new ∷ []) ≡ lists_of_nodes pairs nodes ++ list ∷ []
+  pub lists-push : lists_of_nodes (pairs ++ more) (nodes ++ new ∷ []) ≡ lists_of_nodes pairs nodes ++ list ∷ []
   unfolding lists_to
   lists-push =
       let longer : length (nodes ++ new ∷ []) ≡ suc (length nodes) = omega (arith, length_push nodes new) in
@@ -114,14 +113,14 @@ module _ (pairs pairs' : List (ℕ × ℕ)) (nodes : List Node) (new : Node) (ar
   -- Suppose that the appended node, which stores one list, is valid (`StoresNode`), and that this list is in strictly
   -- ascending order. Then all nodes are still valid (`AreNodes`).
   pub AreNodes-push : length nodes < MOST_LISTS → IsStrictlySortedBy pair_cmp list → Fit list
-      → StoresNode pairs' (lists_of_nodes pairs nodes ++ list ∷ []) (length nodes) new
-      → AreNodes pairs' (nodes ++ new ∷ [])
+      → StoresNode (pairs ++ more) (lists_of_nodes pairs nodes ++ list ∷ []) (length nodes) new
+      → AreNodes (pairs ++ more) (nodes ++ new ∷ [])
   AreNodes-push few ascending fits each_node =
       let size = length-lists pairs nodes in
       let some = are.stored.some in
       record {
         stored = rw lists-push (AreStored-push (lists_of_nodes pairs nodes) list are.stored (omega arith) ascending fits
-            (λ long. rw size (kept_long pairs' _ _ (length nodes) new each_node long)));
+            (λ long. rw size (kept_long (pairs ++ more) _ _ (length nodes) new each_node long)));
         empty = get_or_append_left nodes (new ∷ []) (Whole 0 0) 0 (omega arith) ∙ are.empty;
         each_node = λ k low. rw lists-push (search (
           rules,
@@ -132,7 +131,7 @@ module _ (pairs pairs' : List (ℕ × ℕ)) (nodes : List Node) (new : Node) (ar
           IsHalved-grow,
           Grow-push,
           are.each_node,
-          longer,
+          length-append pairs more,
           each_node,
         ));
       }
@@ -169,29 +168,23 @@ module _ (pairs new : List (ℕ × ℕ)) (nodes : List Node) (node : Node) (are 
   pub lists-next : (shape : Shape) → IsNext pairs new shape node → lists_of_nodes new (nodes ++ node ∷ [])
       ≡ lists ++ list_of_shape lists shape ∷ []
   lists-next (Pairs l) next =
-      rw (next.0, next.1) (lists-push pairs (pairs ++ l.now) nodes _ are (omega (arith, length-append pairs l.now))
-      (slice_range-append pairs l.now) ∙ ap (λ l. lists ++ l ∷ []) (slice_range-last pairs l.now _ refl))
-  lists-next (Cut h) next =
-      rw (next.0, next.1) (lists-push pairs pairs nodes (Halved h) are (omega arith) (λ s e l m. refl))
+      rw (next.0, next.1) (lists-push pairs l.now nodes _ are
+      ∙ ap (λ l. lists ++ l ∷ []) (slice_range-last pairs l.now _ refl))
+  lists-next (Cut h) next = rw (next.0, next.1) (rw (append-nil pairs) at (lists-push pairs [] nodes (Halved h) are))
 
   pub AreNodes-next : (shape : Shape) → IsNext pairs new shape node → length nodes < MOST_LISTS → Suits lists shape →
       AreNodes new (nodes ++ node ∷ [])
   AreNodes-next (Pairs l) next few suits =
       let whole = slice_range-last pairs l.now _ refl in
       let longer = length-append pairs l.now in
-      rw (next.0, next.1) (AreNodes-push pairs (pairs ++ l.now) nodes _ are (omega (arith, longer))
-      (slice_range-append pairs l.now) few (rw whole suits.ascending) (rw whole suits.fit)
+      rw (next.0, next.1) (AreNodes-push pairs l.now nodes _ are few (rw whole suits.ascending) (rw whole suits.fit)
       (omega (arith, longer), omega (arith, suits.few)))
   AreNodes-next (Cut h) next few suits =
-      let rise = are.stored.rise in
-      let fit = are.stored.fit in
-      let below = suits.below in
-      let above = suits.above in
-      let halves = suits.halves in
+      let rise = λ (k : ℕ) (low : k < length lists). are.stored.rise k [] low in
+      let fit = λ (k : ℕ) (low : k < length lists). are.stored.fit k [] low in
       let has = halves_has (list_at lists h.below) (list_at lists h.above) in
-      rw (next.0, next.1) (AreNodes-push pairs pairs nodes (Halved h) are (omega arith) (λ s e l m. refl) few
-      (halves_rise _ _ h.cut (rise h.below [] below) (rise h.above [] above) (fit h.below [] below)
-      (fit h.above [] above) halves.under halves.over)
-      (λ z d. grind (arith, has z, fit h.below [] below z, fit h.above [] above z))
+      rw (next.0, next.1) (rw (append-nil pairs) at (AreNodes-push pairs [] nodes (Halved h) are few
+      (halves_rise _ _ h.cut (rise _ suits.below) (rise _ suits.above) (fit _ suits.below) (fit _ suits.above)
+      suits.halves.under suits.halves.over) (λ z d. grind (arith, has z, fit _ suits.below z, fit _ suits.above z))
       (subst (λ n. IsHalved (lists ++ (list_at lists h.below ++ list_at lists h.above) ∷ []) n h)
-      (length-lists pairs nodes) (search (rules, list-old, list-new))))
+      (length-lists pairs nodes) (search (rules, list-old, list-new)))))

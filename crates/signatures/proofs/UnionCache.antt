@@ -1,7 +1,7 @@
 -- The union cache stores the IDs of unions that were computed before. One lemma shows that the entry in each empty slot
 -- is a correct union. Another lemma shows that all entries are still correct unions after a union has been stored.
 use Rattle.std.proofs.Common.{rules, ◌≡◌, ◌⊎◌, ◌↔◌, ℕ, ◌<◌, List, length, map, set, replicate, min, max, Contains, refl}
-use Rattle.std.proofs.Common.{inl, inr, arith, Result, Ok, Err, IfOk, All}
+use Rattle.std.proofs.Common.{inl, inr, arith, Result, IfOk, All}
 use Rattle.std.proofs.lemmas.Bool.{cases_lt}
 use Rattle.std.proofs.lemmas.List.{map-set}
 use Rattle.std.proofs.lemmas.List.Elements.{All-map, All-replicate}
@@ -10,8 +10,7 @@ use Rattle.signatures.specs.Unions.{union_entry, IsNone, IsUnion, AreUnions}
 use Rattle.signatures.proofs.Joining.{or_swap}
 
 pub if_both : {X E : Type 0} (r : Result X E) (P Q : X → Type 0) → IfOk r P → IfOk r Q → IfOk r (λ x. P x × Q x)
-if_both (Ok x) P Q p q = (p, q)
-if_both (Err e) P Q p q = tt
+if_both r P Q p q = grind arith
 
 pub none_noted : (unions : List Union) (n : ℕ) → unions ≡ replicate n NO_UNION → All IsNone (map union_entry unions)
 none_noted unions n e =

@@ -6,7 +6,6 @@
 use Rattle.std.proofs.Common.{◌≡◌, ◌⊎◌, ◌↔◌, ℕ, ◌+◌, ◌-◌, ◌<◌, min, max, List, [], ◌++◌, length, Contains, ap, sym}
 use Rattle.std.proofs.Common.{subst, refl, inl, inr, arith, rules, length-append}
 use Rattle.std.specs.List.Sorted.{IsStrictlySortedBy}
-use Rattle.std.proofs.lemmas.Bool.{cases_lt}
 use Rattle.signatures.specs.declared.nodes.{Halves.Halves, TheConstants.MOST_WHOLE}
 use Rattle.signatures.specs.Lists.{pair_cmp, list_at, merged, Grow}
 use Rattle.signatures.specs.Cuts.{IsCutPoint, IsAlike, IsCut, IsUnder, IsOver, IsParted}
@@ -14,7 +13,7 @@ use Rattle.signatures.specs.Nodes.{IsHalved, AreHalvesIn}
 use Rattle.signatures.specs.Unions.{Unites, IsSplit}
 use Rattle.signatures.proofs.Cuts.{alike_wider}
 use Rattle.signatures.proofs.Keys.{halves_has, parts_has, parts_shorter}
-use Rattle.signatures.proofs.Halving.{HasEnds, AreHalvesIn-parts}
+use Rattle.signatures.proofs.Halving.{HasEnds, IsCut-ends, HasEnds-union, AreHalvesIn-parts}
 use Rattle.signatures.proofs.Merging.{merged_has}
 use Rattle.signatures.proofs.Joining.{or_swap}
 use Rattle.signatures.proofs.Rising.{rising_fewer}
@@ -131,28 +130,11 @@ ends_halves is =
 pub placed : {xs ys : List (ℕ × ℕ)} {low high low' high' bit l h c : ℕ} → IsCutPoint bit l h c → HasEnds xs low high
     → HasEnds ys low' high' → l ≡ min low low' → h ≡ max high high'
     → IsAlike bit xs c × IsAlike bit ys c × ((list : List (ℕ × ℕ)) → Unites list xs ys → IsCut list c)
-placed {xs} {ys} {low} {high} {low'} {high'} {bit} {l} {h} {c} place first second l_is h_is =
-    let one = first.alike bit l h c place (omega arith) (omega arith) in
-    let two = second.alike bit l h c place (omega arith) (omega arith) in
-    let after = place.after in let within = place.within in (
-      one,
-      two,
-      λ list unites. record {
-        bit = bit;
-        alike = record {
-          multiple = one.multiple;
-          alike = λ w d. elim ((unites w).0 d) [ inl a ↦ one.alike w a | inr b ↦ two.alike w b ];
-        };
-        below = elim (cases_lt low low') [
-          | inl less ↦ (first.before.0, (unites _).1 (inl first.before.1), omega (arith, first.before.2))
-          | inr more ↦ (second.before.0, (unites _).1 (inr second.before.1), omega (arith, second.before.2))
-        ];
-        above = elim (cases_lt high high') [
-          | inl less ↦ (second.after.0, (unites _).1 (inr second.after.1), omega (arith, second.after.2))
-          | inr more ↦ (first.after.0, (unites _).1 (inl first.after.1), omega (arith, first.after.2))
-        ];
-      },
-    )
+placed {bit = bit} {l} {h} {c} place first second l_is h_is = (
+  first.alike bit l h c place (omega arith) (omega arith),
+  second.alike bit l h c place (omega arith) (omega arith),
+  λ list unites. IsCut-ends (HasEnds-union first second unites) (rw (l_is, h_is) at place),
+)
 
 -- The merge of two lists has exactly the pairs of both lists.
 pub unites_merged : (list xs ys : List (ℕ × ℕ)) → list ≡ merged xs ys → Unites list ys xs

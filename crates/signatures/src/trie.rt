@@ -6,14 +6,14 @@ ghost use Rattle.std.specs.List.Sorted.{IsStrictlySortedBy};
 ghost use Rattle.signatures.specs.Lists.{pair_cmp, list_at, merged, Grow};
 ghost use Rattle.signatures.specs.Cuts.{Fit};
 ghost use Rattle.signatures.specs.Nodes.{AreStored, IsShape, list_of_shape, Suits};
-ghost use Rattle.signatures.specs.Hashed.{fingerprint_of, AreDifferent};
+ghost use Rattle.signatures.specs.Hashed.{fingerprint_of, AreDifferent, IsNewList};
 ghost use Rattle.signatures.specs.Unions.{IsUnion};
 
 use crate::cut::{key, parted};
 use crate::hashes::{fingerprint, mix};
 use crate::nodes::{Nodes, Shape};
 use crate::sorted_lists::{append_merged, has};
-use crate::trie_lookup::{add_list, find};
+use crate::trie_lookup::find;
 use crate::union_cache::UnionCache;
 use buckets::Buckets;
 use memory::Memory;
@@ -110,13 +110,29 @@ impl Trie {
         if let Some(id) = find(&self.nodes, &self.buckets, shape, mix(sum)) {
             return Ok(id);
         }
-        add_list(
-            &mut self.nodes,
-            &mut self.sums,
-            &mut self.buckets,
-            shape,
-            sum,
-        )
+        self.add_list(shape, sum)
+    }
+
+    /// Appends the list that `shape` describes, and returns its ID. The argument `shape` has either the pairs of the
+    /// list, or the IDs of the two halves of the list. The argument `sum` is the fingerprint of the list, which is a
+    /// hash of 64 bits. The caller must ensure that no stored list is equal to this list.
+    fn add_list(&mut self, shape: Shape<'_>, sum: u64) -> Result<u32, Memory>
+        requires suits { Suits self.old shape }
+        requires sum { sum ≡ fingerprint_of (list_of_shape self.old shape) }
+        requires absent { IsNewList self.old (list_of_shape self.old shape) }
+        ensures grow { Grow self.old self.new }
+        ensures added { OnOk result
+            (self.new ≡ self.old ++ list_of_shape self.old shape.entry ∷ []) }
+        ensures id { IfOk result (λ j. j ≡ length self.old) }
+        ensures err { OnErr result (self.new ≡ self.old) }
+    {
+        self.nodes.invariants();
+        self.sums.reserve(1)?;
+        self.buckets.make_room()?;
+        let id = self.nodes.push(shape)?;
+        self.buckets.push(mix(sum));
+        self.sums.push_reserved(sum);
+        Ok(id)
     }
 
     /// Returns the ID of the union of the lists with the IDs `j` and `k`, if the union is in the union cache.

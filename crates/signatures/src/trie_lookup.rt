@@ -1,15 +1,13 @@
 //! Finds lists in the trie, which stores the lists that other lists can share, by their hashes (hash-consing). Each of
 //! the lists in the trie has a tag, which is a hash of 32 bits. Equal lists have equal tags.
-ghost use Rattle.std.specs.Prelude.{◌≡◌, ◌^◌, ◌++◌, ◌∷◌, ◌<◌, [], length, map, IfOk, OnOk, OnErr, IsTrue, ◌↔◌};
-ghost use Rattle.std.specs.Prelude.{MatchOption};
-ghost use Rattle.signatures.specs.Lists.{list_at, Grow};
+ghost use Rattle.std.specs.Prelude.{◌≡◌, ◌↔◌, ◌<◌, length, map, IsTrue, MatchOption};
+ghost use Rattle.signatures.specs.Lists.{list_at};
 ghost use Rattle.signatures.specs.Nodes.{list_of_shape, Suits};
-ghost use Rattle.signatures.specs.Hashed.{fingerprint_of, tag_of, AreDifferent, IsHashed, IsNewList, IsIdOf};
+ghost use Rattle.signatures.specs.Hashed.{tag_of, AreDifferent, IsNewList, IsIdOf};
 
-use crate::hashes::{are_same, mix};
+use crate::hashes::are_same;
 use crate::nodes::{Nodes, Shape};
 use buckets::{Buckets, EMPTY};
-use memory::Memory;
 
 /// Returns whether the list with the ID `k` is equal to the list that `shape` describes. The argument `shape` has
 /// either the pairs of its list, or the IDs of the two halves of its list.
@@ -47,34 +45,4 @@ pub(crate) fn find(nodes: &Nodes, buckets: &Buckets, shape: Shape<'_>, tag: u32)
         r = buckets.before(r);
     }
     None
-}
-
-/// Appends the list that `shape` describes, and returns its ID. The argument `shape` has either the pairs of the list,
-/// or the IDs of the two halves of the list. The argument `sum` is the fingerprint of the list, which is a hash of 64
-/// bits. The caller must ensure that no stored list is equal to this list.
-pub(crate) fn add_list(
-    nodes: &mut Nodes,
-    sums: &mut Vec<u64>,
-    buckets: &mut Buckets,
-    shape: Shape<'_>,
-    sum: u64,
-) -> Result<u32, Memory>
-    requires hashed { IsHashed nodes.old sums.old.items buckets.old.tags }
-    requires suits { Suits nodes.old shape }
-    requires sum { sum ≡ fingerprint_of (list_of_shape nodes.old shape) }
-    requires absent { IsNewList nodes.old (list_of_shape nodes.old shape) }
-    ensures hashed { IsHashed nodes.new sums.new.items buckets.new.tags }
-    ensures grow { Grow nodes.old nodes.new }
-    ensures added { OnOk result
-        (nodes.new ≡ nodes.old ++ list_of_shape nodes.old shape.entry ∷ []) }
-    ensures id { IfOk result (λ j. j ≡ length nodes.old) }
-    ensures err { OnErr result (nodes.new ≡ nodes.old) }
-{
-    nodes.invariants();
-    sums.reserve(1)?;
-    buckets.make_room()?;
-    let id = nodes.push(shape)?;
-    buckets.push(mix(sum));
-    sums.push_reserved(sum);
-    Ok(id)
 }

@@ -1,7 +1,7 @@
 use Rattle.std.proofs.Common.{rules, ◌∙◌, ℕ, arith}
 use Rattle.signatures.specs.Cuts.{IsCut}
 use Rattle.signatures.proofs.Keys.{parts_both, parts_shorter}
-use Rattle.signatures.proofs.Halving.{first_before_last, IsCut-place, AreHalvesIn-parts}
+use Rattle.signatures.proofs.Halving.{first_before_last, ends_pairs, IsCut-ends, AreHalvesIn-parts}
 use Rattle.signatures.proofs.unions.+list_of.Goals as goal
 use Rattle.signatures.proofs.unions.+list_of.Goals.{After-parted}
 
@@ -13,7 +13,8 @@ cut-cut-requires t c =
 -- halves.
 at_cut : (t : ℕ) (c : After-parted t) → IsCut c.args.pairs.now c.cut-cut.result
 at_cut t c =
-    search (rules, IsCut-place, c.requires.ascending, c.requires.fit, c.key.ensures, c.key-2.ensures, c.cut-cut.ensures)
+    IsCut-ends (ends_pairs _ c.requires.ascending c.requires.fit (omega arith) c.key.ensures c.key-2.ensures)
+    c.cut-cut.ensures.1
 
 pub list_of-requires : goal.list_of-requires
 list_of-requires t c =
