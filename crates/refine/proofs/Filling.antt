@@ -1,41 +1,28 @@
 -- These lemmas are about the signatures of all states, and about the blocks that result from a split by these
 -- signatures.
-use Rattle.std.proofs.Common.{rules, ◌≡◌, ◌↔◌, ◌∙◌, ℕ, zero, suc, ◌<◌, List, [], ◌∷◌, length, get_or, slice_index, ap}
-use Rattle.std.proofs.Common.{subst₂, refl}
+use Rattle.std.proofs.Common.{rules, ◌≡◌, ◌↔◌, ℕ, ◌<◌, List, [], length, map, slice_index, subst₂}
 use Rattle.std.proofs.lemmas.List.{get_or-map, length-map}
 use Rattle.signatures.specs.Lists.{list_at, AreLists, AreIds}
 use Rattle.partition.specs.Splitting.{Splits}
 use Rattle.refine_core.specs.Signatures.{list_of}
 use Rattle.refine_core.proofs.CallerLemmas.{Splits-signatures}
-use Rattle.refine.specs.Signed.{each_signature, signature_at}
 
 -- The list `signature_ids` has the ID of an interned signature for each state. The signature of the state s is the
 -- interned signature with this ID.
-pub signature_at-list : (interned : List (List (ℕ × ℕ))) (signature_ids : List ℕ) (s : ℕ) → s < length signature_ids →
-    signature_at (each_signature interned signature_ids) s ≡ list_of interned signature_ids s
-signature_at-list interned signature_ids s h = get_or-map (list_at interned) signature_ids s 0 [] h
-
--- If the empty signature is the only interned signature, it is the signature of each state.
-pub signature_at-none : (interned : List (List (ℕ × ℕ))) (signature_ids : List ℕ) (s : ℕ) → interned ≡ [] ∷ [] →
-    s < length signature_ids → signature_at (each_signature interned signature_ids) s ≡ []
-signature_at-none interned signature_ids s only h =
-    signature_at-list interned signature_ids s h ∙ ap (λ xs. list_of xs signature_ids s) only
-    ∙ at (get_or signature_ids s 0)
-  where
-    at : (k : ℕ) → list_at ([] ∷ []) k ≡ []
-    at zero = refl
-    at (suc k) = refl
+pub signature_is : (interned : List (List (ℕ × ℕ))) (signature_ids : List ℕ) (s : ℕ) → s < length signature_ids →
+    list_at (map (list_at interned) signature_ids) s ≡ list_of interned signature_ids s
+signature_is interned signature_ids s h = get_or-map (list_at interned) signature_ids s 0 [] h
 
 -- Suppose that the old blocks are split by the IDs of the signatures, and that the resulting blocks are then numbered
 -- in the order of their least members. Then two states share a resulting block if and only if they shared an old block
 -- and have equal signatures.
 pub split_alike : (interned signatures : List (List (ℕ × ℕ))) (signature_ids ns p old new q : List ℕ) (count more : ℕ)
-    → each_signature interned signature_ids ≡ signatures → AreLists interned → AreIds interned signature_ids → ns
+    → map (list_at interned) signature_ids ≡ signatures → AreLists interned → AreIds interned signature_ids → ns
     ≡ signature_ids
     → length p ≡ length signatures → old ≡ p → Splits old count (slice_index ns) new more
     → ((s t : ℕ) → s < length new → t < length new
     → (slice_index q s ≡ slice_index q t) ↔ (slice_index new s ≡ slice_index new t))
     → (s t : ℕ) → s < length p → t < length p → (slice_index q s ≡ slice_index q t)
-    ↔ ((slice_index p s ≡ slice_index p t) × (signature_at signatures s ≡ signature_at signatures t))
+    ↔ ((slice_index p s ≡ slice_index p t) × (list_at signatures s ≡ list_at signatures t))
 split_alike interned signed signature_ids ns p old new q count more view are each given size is split alike s t h k =
-    search (rules, length-map, subst₂, Splits-signatures, signature_at-list)
+    search (rules, length-map, subst₂, Splits-signatures, signature_is)

@@ -1,17 +1,18 @@
 -- Lemmas about a search along inert transitions. They show how each transition changes the search, and that the search
 -- ends with the signature of the state at which it began.
-use Rattle.std.proofs.Common.{rules, ◌≡◌, ◌∙◌, ◌↔◌, ℕ, ◌+◌, ◌-◌, ◌<◌, ◌≤◌, Bool, true, false, cond, eqb, IsTrue}
+use Rattle.std.proofs.Common.{rules, ◌≡◌, ◌∙◌, ◌↔◌, ℕ, ◌+◌, ◌<◌, ◌≤◌, Bool, true, false, cond, eqb, IsTrue}
 use Rattle.std.proofs.Common.{List, [], ◌∷◌, ◌++◌, length, set, take, slice_index, slice_index_or, Contains, ap, sym}
 use Rattle.std.proofs.Common.{subst, refl, inl, inr, arith}
 use Rattle.std.proofs.lemmas.Grind.{common_steps}
 use Rattle.std.specs.Io.{StartsWith}
-use Rattle.std.specs.List.{All, IsDistinct, filter, list_any, sum_by}
+use Rattle.std.specs.List.{IsDistinct, filter, list_any, sum_by}
 use Rattle.std.specs.List.Sorted.{IsStrictlySortedBy}
-use Rattle.std.proofs.Transfers.{starts_with_of_eq}
+use Rattle.std.proofs.Transfers.{starts_with_of_eq, starts_with_trans}
+use borrow.Author.Count.{below_more}
 use Rattle.std.proofs.lemmas.Bool.Decides.{nat_tests}
-use Rattle.std.proofs.lemmas.List.{length-set, length_push, get_or_append_left, take_at, take_all}
-use Rattle.std.proofs.lemmas.List.Elements.{All-push, All-weaker, All-contains, All-from_get_or, All-from_recursion}
-use Rattle.std.proofs.lemmas.List.Elements.{Contains-push, Contains-push_cases, Contains-append_left}
+use Rattle.std.proofs.lemmas.List.{length-set, length_push, get_or_append_left, get_or_default, take_at, take_all}
+use Rattle.std.proofs.lemmas.List.Elements.{All-push, All-contains, All-from_get_or, All-from_recursion}
+use Rattle.std.proofs.lemmas.List.Elements.{Contains-push, Contains-push_cases, Contains-append_left, Contains-get_or}
 use Rattle.std.proofs.lemmas.List.Folds.{list_any_none}
 use Rattle.std.proofs.lemmas.List.Sums.{length-filter, count_by-le-length, get_or-le-sum_by, sum_by-cons}
 use Rattle.std.proofs.lemmas.List.Sums.{sum_by_more_le}
@@ -20,7 +21,7 @@ use Rattle.theory.specs.System.{System, Step, Leads, internal}
 use Rattle.theory.specs.declared.relation.Relation.TheVariants.{Branching}
 use Rattle.theory.specs.Blocks.{Inert}
 use Rattle.lts.specs.Labels.{text_of}
-use Rattle.lts.specs.Lts.{Triple, source_of, label_of, target_of, row_of, system_of, IsTriple, IsLts}
+use Rattle.lts.specs.Lts.{Triple, source_of, label_of, target_of, row_of, place_at, system_of, IsTriple, IsLts}
 use Rattle.lts.proofs.CallerLemmas.{length-filter-sum}
 use Rattle.signatures.specs.Lists.{pair_cmp}
 use Rattle.inert.specs.Signed.{HasPair, IsSignature, pair_under}
@@ -31,7 +32,7 @@ use Rattle.inert.specs.declared.lens.Step.TheVariants.{Inert as Goes, Shows}
 use Rattle.refine_core.specs.Index.{IsUnmarked}
 use Rattle.partition.proofs.CallerLemmas.{in_one}
 use Rattle.refine_core.proofs.CallerLemmas.{none_marked, marked_more}
-use Rattle.refine.specs.Search.{FoundStates, WasFound, Reaches, ExploresStep, IsExplored, FindsFrom}
+use Rattle.refine.specs.Search.{FoundStates, WasFound, Reaches, ExploresStep, IsExplored, FindsFrom, Continues}
 
 module _ (places : List Triple) where
   -- Returns the number of transitions of the state t.
@@ -72,22 +73,12 @@ module _ (places : List Triple) where
       × (sum_by row_length (take i xs) ≤ length places)
   rows_all xs i once long some = rw (take_all i xs long) (get_or-le-sum_by row_length xs 0 0 some, rows_few xs once)
 
--- `ReadsRow` holds while the search reads the transitions of the found state at the index i. In the list of all
--- transitions, the transitions of this state begin at the place (index) `start`. The search has read the transitions
--- from the place `start` up to but excluding the place k.
+-- In the list of all transitions, the transitions of the found state at the index i begin at the place (index) `start`.
+-- `ReadsRow` holds while the search reads these transitions. The data of the search was `first` before it read them, and
+-- is f now. The search has explored the transitions from the place `start` up to but excluding the place k.
 pub record ReadsRow (u : Under) (s : ℕ) (first : FoundStates) (i start k : ℕ) (f : FoundStates) : Type 0 where
-  pub search : FindsFrom u s f i
-  pub kept : StartsWith f.states first.states
-  pub taken : All (IsExplored u s f) (take (k - start) (row_of (slice_index first.states i) u.l.places))
-
--- `Went` holds if the search has read the transition e, and the invariant of the search (`FindsFrom`) still holds. The
--- data of the search was `old` before e was read, and is `new` afterwards. Everything that was found before is still
--- found.
-pub record Went (u : Under) (s : ℕ) (old new : FoundStates) (read : ℕ) (e : Triple) : Type 0 where
-  pub search : FindsFrom u s new read
-  pub kept : StartsWith new.states old.states
-  pub keeps : (e' : Triple) → IsExplored u s old e' → IsExplored u s new e'
-  pub now : IsExplored u s new e
+  pub on : Continues u s first f i
+  pub taken : (j : ℕ) → j < k → start ≤ j → IsExplored u s f (place_at u.l.places j)
 
 module _ (u : Under) (s : ℕ) (lts : IsLts u.l) (laws : Laws)
     (sources : (s : ℕ) (places : List Triple) (e : Triple) → Contains (row_of s places) e
@@ -101,16 +92,19 @@ module _ (u : Under) (s : ℕ) (lts : IsLts u.l) (laws : Laws)
   abbrev blocks : ℕ → ℕ
   blocks = slice_index u.blocks
 
-  is_triple : (x : ℕ) (e : Triple) → Contains (row_of x u.l.places) e → IsTriple (length u.l.labels) u.l.states e
-  is_triple x e in_row = All-contains (IsTriple (length u.l.labels) u.l.states) u.l.places e lts.in_range.each
-      ((sources x u.l.places e).0 in_row).0
+  -- The following lemmas assume that inert transitions lead from the state s to the state x, and that the search has
+  -- read the transitions of x up to but excluding the transition e, which is at the place (index) k.
+  module _ {first old : FoundStates} {i start k x : ℕ} (was : ReadsRow u s first i start k old)
+      (led : LeadsInertly u s x) (at : k < length u.l.places) (from : source_of (place_at u.l.places k) ≡ x) where
+    abbrev e : Triple
+    e = place_at u.l.places k
 
-  -- The following lemmas assume that inert transitions lead from the state s to the state x, and that e is an outgoing
-  -- transition of x.
-  module _ (old : FoundStates) (read : ℕ) (found : FindsFrom u s old read) (x : ℕ) (led : LeadsInertly u s x)
-      (e : Triple) (in_row : Contains (row_of x u.l.places) e) where
+    found : FindsFrom u s old i
+    found = was.on.search
+
     its_step : Step A x (text_of u.l.labels (label_of e)) (target_of e)
-    its_step = (steps x (text_of u.l.labels (label_of e)) (target_of e)).1 (e, in_row, refl, refl)
+    its_step = let in_row = (sources x u.l.places e).1 (Contains-get_or u.l.places k (0, 0, 0) at, from) in
+        (steps x _ (target_of e)).1 (e, in_row, refl, refl)
 
     -- If the transition e is inert, inert transitions lead from s to its target.
     leads_on : IsInert u (blocks s) e → LeadsInertly u s (target_of e)
@@ -120,67 +114,69 @@ module _ (u : Under) (s : ℕ) (lts : IsLts u.l) (laws : Laws)
           inert.1 ∙ sym (stays A blocks s x led),
         )
 
+    -- Suppose that the data of the search is `new` after the search has read e. If the search has explored e, and still
+    -- has everything that it had found before, then it has read one more transition of x.
+    reads : (new : FoundStates) → StartsWith new.states old.states → FindsFrom u s new i
+        → ((e' : Triple) → IsExplored u s old e' → IsExplored u s new e') → IsExplored u s new e
+        → ReadsRow u s first i start (k + 1) new
+    reads new kept search keeps now = record {
+      on = record { search = search; kept = starts_with_trans _ _ _ kept was.on.kept };
+      taken = below_more _ k (λ j low high. keeps _ (was.taken j low high)) (λ _. now);
+    }
+
     -- Suppose that the transition e is inert, and that the search reaches its target: if the target was not found
-    -- before, it is added to the found states. Then the invariant of the search still holds after e was read (`Went`).
-    goes : (new : FoundStates) → IsInert u (blocks s) e → Reaches (target_of e) old new → Went u s old new read e
-    goes new inert (inl (was, is)) = grind (arith, common_steps)
+    -- before, it is added to the found states. Then the search has read one more transition of x.
+    goes : (new : FoundStates) → IsInert u (blocks s) e → Reaches (target_of e) old new
+        → ReadsRow u s first i start (k + 1) new
+    goes new inert (inl (was, is)) =
+        rw is (reads old (starts_with_of_eq _ _ refl) found (λ e' h. h) (search rules))
     goes new inert (inr (off, is)) =
         let t = target_of e in
-        let below : t < length old.marked = omega (arith, found.size, (is_triple x e in_row).target) in
+        let below : t < length old.marked = omega (arith, found.size, (lts.in_range.each k (0, 0, 0) at).target) in
         let after : FoundStates = record old { marked = set old.marked t true; states = old.states ++ t ∷ [] } in
         let keeps : (e' : Triple) → IsExplored u s old e' → IsExplored u s after e' = search rules in
-        subst (λ f. Went u s old f read e) (sym is) (record {
-          search = record {
-            size = length-set old.marked t true ∙ found.size;
-            marked = marked_more old.marked old.states t below off found.marked;
-            first = grind (arith, common_steps, found.first);
-            led = λ j h. All-push (LeadsInertly u s) old.states t
-                (All-from_get_or (LeadsInertly u s) old.states 0 found.led) (leads_on inert) j 0 h;
-            few = omega (arith, length_push old.states t, found.few);
-            own = found.own;
-            taken = λ j h. rw (get_or_append_left old.states (t ∷ []) 0 j (omega (arith, h, found.few)))
-                (All-weaker (IsExplored u s old) (IsExplored u s after) keeps _ (found.taken j h));
-          };
-          kept = take_at old.states (t ∷ []) _ refl;
-          keeps = keeps;
-          now = search rules;
-        })
+        rw is (reads after (take_at old.states (t ∷ []) _ refl) (record {
+          size = length-set old.marked t true ∙ found.size;
+          marked = marked_more old.marked old.states t below off found.marked;
+          first = grind (arith, common_steps, found.first);
+          led = λ j h. All-push (LeadsInertly u s) old.states t
+              (All-from_get_or (LeadsInertly u s) old.states 0 found.led) (leads_on inert) j 0 h;
+          few = omega (arith, length_push old.states t, found.few);
+          own = found.own;
+          taken = λ j h. rw (get_or_append_left old.states (t ∷ []) 0 j (omega (arith, h, found.few)))
+              (λ k l is. keeps _ (found.taken j h k l is));
+        }) keeps (search rules))
 
     -- Suppose that the transition e is not inert, and that the search collects its pair (label ID, target block). Then
-    -- the invariant of the search still holds after e was read (`Went`).
+    -- the search has read one more transition of x.
     collects : (z : ℕ × ℕ) (new : FoundStates) → ¬ IsInert u (blocks s) e → z ≡ pair_under u.blocks e →
-        new ≡ record old { pairs = old.pairs ++ z ∷ [] } → Went u s old new read e
+        new ≡ record old { pairs = old.pairs ++ z ∷ [] } → ReadsRow u s first i start (k + 1) new
     collects z new other pair is =
         let after : FoundStates = record old { pairs = old.pairs ++ z ∷ [] } in
         let keeps : (e' : Triple) → IsExplored u s old e' → IsExplored u s after e' =
         grind (arith, common_steps, Contains-append_left, old.pairs, u.blocks) in
         let has : HasPair Branching u.l u.blocks s z.0 z.1 = rw pair
-        ((is_triple x e in_row).label, (x, target_of e, led, its_step, refl, other)) in
-        subst (λ f. Went u s old f read e) (sym is) (record {
-          search = record {
-            size = found.size;
-            marked = found.marked;
-            first = found.first;
-            led = found.led;
-            few = found.few;
-            own = λ y c. elim (Contains-push_cases old.pairs z y c) [
-              | inl d ↦ found.own y d
-              | inr same ↦ subst (λ p. HasPair Branching u.l u.blocks s p.0 p.1) same has
-            ];
-            taken = λ j h. All-weaker (IsExplored u s old) (IsExplored u s after) keeps _ (found.taken j h);
-          };
-          kept = starts_with_of_eq old.states old.states refl;
-          keeps = keeps;
-          now = record {
-            followed = λ inert. absurd (other inert);
-            shown = λ _. rw (← pair) (Contains-push old.pairs z);
-          };
-        })
+        ((lts.in_range.each k (0, 0, 0) at).label, (x, target_of e, led, its_step, refl, other)) in
+        rw is (reads after (starts_with_of_eq _ _ refl) (record {
+          size = found.size;
+          marked = found.marked;
+          first = found.first;
+          led = found.led;
+          few = found.few;
+          own = λ y c. elim (Contains-push_cases old.pairs z y c) [
+            | inl d ↦ found.own y d
+            | inr same ↦ subst (λ p. HasPair Branching u.l u.blocks s p.0 p.1) same has
+          ];
+          taken = λ j h k l is. keeps _ (found.taken j h k l is);
+        }) keeps (record {
+          followed = λ inert. absurd (other inert);
+          shown = λ _. rw (← pair) (Contains-push old.pairs z);
+        }))
 
-    -- The invariant of the search still holds after the transition e was read (`Went`). This is true for an inert
+    -- If the search has read the transition e, then it has read one more transition of x. This is true for an inert
     -- transition and for a transition that is not inert.
     pub went : (step : RowStep) (new : FoundStates) → IsStep u (blocks s) e step → ExploresStep step old new
-        → Went u s old new read e
+        → ReadsRow u s first i start (k + 1) new
     went (Goes t) new (inert, is) reaches = goes new inert (subst (λ t. Reaches t old new) is reaches)
     went (Shows a b) new (other, is) takes = collects (a, b) new other is takes
 
@@ -189,20 +185,27 @@ module _ (u : Under) (s : ℕ) (lts : IsLts u.l) (laws : Laws)
       ((s t : ℕ) → Inert A blocks s t → IsTrue (has s) → IsTrue (has t))
       → (s t : ℕ) → Leads (Inert A blocks) s t → IsTrue (has s) → IsTrue (has t))
       (f : FoundStates) (search : FindsFrom u s f (length f.states)) where
-    all_taken : (x : ℕ) → WasFound f x → All (IsExplored u s f) (row_of x u.l.places)
-    all_taken x on = grind (arith, u.l.places)
+    -- If the search has found the state x, it has explored the transition of each step of x.
+    explored : (x : ℕ) (a : List ℕ) (y : ℕ) → WasFound f x → Step A x a y → (e : Triple) × (IsExplored u s f e
+        × IsTriple (length u.l.labels) u.l.states e) × (text_of u.l.labels (label_of e) ≡ a) × (target_of e ≡ y)
+    explored x a y on step =
+        let (e, in_row, label, target) = (steps x a y).0 step in
+        let ((k, at, same), source) = (sources x u.l.places e).0 in_row in
+        let here : place_at u.l.places k ≡ e = get_or_default u.l.places k (0, 0, 0) e at ∙ same in
+        let (j, below, is) = search.marked.all x on in
+        let done = search.taken j below k at (ap source_of here ∙ source ∙ sym is) in
+        let both = subst (λ e. IsExplored u s f e × IsTriple (length u.l.labels) u.l.states e) here
+        (done, lts.in_range.each k (0, 0, 0) at) in
+        (e, both, label, target)
 
     all_led : (x : ℕ) → WasFound f x → LeadsInertly u s x
     all_led x on = let one = search.marked.all x on in subst (LeadsInertly u s) one.2 (search.led one.0 one.1)
 
     closed : (x y : ℕ) → Inert A blocks x y → WasFound f x → WasFound f y
     closed x y inert on =
-        let (e, in_row, label, target) = (steps x internal y).0 inert.0 in
-        let taken = All-contains (IsExplored u s f) (row_of x u.l.places) e (all_taken x on) in_row in
-        subst (WasFound f) target (taken.followed (
-          label,
-          ap blocks target ∙ inert.1 ∙ stays A blocks s x (all_led x on),
-        ))
+        let (e, (done, triple), label, target) = explored x internal y on inert.0 in
+        subst (WasFound f) target
+        (done.followed (label, ap blocks target ∙ inert.1 ∙ stays A blocks s x (all_led x on)))
 
     -- When the search has read the transitions of all states that it has found, it has found each state to which inert
     -- transitions lead from s.
@@ -214,13 +217,11 @@ module _ (u : Under) (s : ℕ) (lts : IsLts u.l) (laws : Laws)
 
     has_pair : (k b : ℕ) → HasPair Branching u.l u.blocks s k b → Contains f.pairs (k, b)
     has_pair k b (below, (x, t, ties, step, block, other)) =
-        let on = all_found x ties in
-        let (e, in_row, label, target) = (steps x (text_of u.l.labels k) t).0 step in
-        let taken = All-contains (IsExplored u s f) (row_of x u.l.places) e (all_taken x on) in_row in
-        let number : label_of e ≡ k = grind (arith, common_steps, lts.table.different, is_triple) in
+        let (e, (done, triple), label, target) = explored x (text_of u.l.labels k) t (all_found x ties) step in
+        let number = lts.table.different (label_of e) k triple.label below label in
         let is : pair_under u.blocks e ≡ (k, b) = λ i. (number i, (ap blocks target ∙ block) i) in
         subst (Contains f.pairs) is
-        (taken.shown (λ inert. other (sym label ∙ inert.0, sym block ∙ ap blocks (sym target) ∙ inert.1)))
+        (done.shown (λ inert. other (sym label ∙ inert.0, sym block ∙ ap blocks (sym target) ∙ inert.1)))
 
     -- Suppose that the collected pairs are sorted in ascending order, and that duplicates are removed. Then the result
     -- is the signature of the state s.
@@ -244,5 +245,5 @@ begun u s marked new laws below size off (inr (now, is)) = subst (λ f. FindsFro
   led = search rules;
   few = omega arith;
   own = λ z c. absurd (omega (arith, c.1));
-  taken = λ j h. absurd (omega (arith, h));
+  taken = λ j h k l is. absurd (omega (arith, h));
 })

@@ -2,9 +2,10 @@
 -- search finds states, and collects pairs of label ID and block ID.
 use Rattle.std.specs.Prelude.{◌≡◌, ◌⊎◌, ℕ, ◌<◌, ◌≤◌, Bool, true, false, IsTrue, List, [], ◌∷◌, ◌++◌, length}
 use Rattle.std.specs.Prelude.{slice_index, slice_set}
-use Rattle.std.specs.List.{All, Contains, slice_index_or}
+use Rattle.std.specs.Io.{StartsWith}
+use Rattle.std.specs.List.{Contains, slice_index_or}
 use Rattle.theory.specs.declared.relation.Relation.TheVariants.{Branching}
-use Rattle.lts.specs.Lts.{Triple, target_of, row_of}
+use Rattle.lts.specs.Lts.{Triple, source_of, target_of, place_at}
 use Rattle.inert.specs.Signed.{HasPair, pair_under}
 use Rattle.inert.specs.Steps.{Under, IsInert}
 use Rattle.inert.specs.Search.{LeadsInertly}
@@ -57,4 +58,12 @@ pub record FindsFrom (u : Under) (s : ℕ) (f : FoundStates) (read : ℕ) : Type
   pub led : (j : ℕ) → j < length f.states → LeadsInertly u s (slice_index f.states j)
   pub few : read ≤ length f.states
   pub own : (z : ℕ × ℕ) → Contains f.pairs z → HasPair Branching u.l u.blocks s z.0 z.1
-  pub taken : (j : ℕ) → j < read → All (IsExplored u s f) (row_of (slice_index f.states j) u.l.places)
+  pub taken : (j : ℕ) → j < read → (k : ℕ) → k < length u.l.places →
+      source_of (place_at u.l.places k) ≡ slice_index f.states j → IsExplored u s f (place_at u.l.places k)
+
+-- `Continues` holds if `new` is the data of a search that began at the state s, and `old` is the data of the same
+-- search at an earlier time. The states that `old` has found must be the first found states of `new`. Moreover, `new`
+-- must satisfy the invariant `FindsFrom`, where all transitions of the first `read` found states are explored.
+pub record Continues (u : Under) (s : ℕ) (old new : FoundStates) (read : ℕ) : Type 0 where
+  pub search : FindsFrom u s new read
+  pub kept : StartsWith new.states old.states

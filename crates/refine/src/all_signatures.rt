@@ -2,11 +2,10 @@
 ghost use Rattle.std.specs.Prelude.{◌≡◌, ◌↔◌, ℕ, ◌<◌, ◌≤◌, [], ◌∷◌, length, slice_index, IfOk, OnOk};
 ghost use Rattle.memory.specs.declared.limits.TheConstants.{MOST_STATES};
 ghost use Rattle.lts.specs.Meter.{HasRoomFor, Visits};
-ghost use Rattle.signatures.specs.Lists.{AreIds};
+ghost use Rattle.signatures.specs.Lists.{list_at};
 ghost use Rattle.partition.specs.Partition.{IsSomePartition};
 ghost use Rattle.partition.specs.Blocks.{IsMember};
 ghost use Rattle.inert.specs.Signed.{IsSignature};
-ghost use Rattle.refine.specs.Signed.{signature_at};
 
 use crate::buffer::SignatureBuffer;
 use crate::sense::{Marks, Sense};
@@ -27,15 +26,16 @@ pub struct Signatures {
 }
 
 impl Model for Signatures {
-    ghost use Rattle.std.specs.Prelude.{◌≡◌, ℕ, List};
+    ghost use Rattle.std.specs.Prelude.{◌≡◌, ℕ, ◌≤◌, List, length, map};
+    ghost use Rattle.memory.specs.declared.limits.TheConstants.{MOST_STATES};
+    ghost use Rattle.signatures.specs.Lists.{list_at, AreIds};
 
     ghost Value = { List (List (ℕ × ℕ)) };
 
-    ghost use Rattle.refine.specs.Signed.{each_signature, AreSignaturesOfStates};
+    ghost view = { λ g. map (list_at g.interned) g.signature_ids.items };
 
-    ghost view = { λ g. each_signature g.interned g.signature_ids.items };
-
-    ghost invariant = { λ g. AreSignaturesOfStates g.interned g.signature_ids.items };
+    ghost invariant = { λ g. AreIds g.interned g.signature_ids.items
+        × (length g.signature_ids.items ≤ MOST_STATES) };
 }
 
 impl Signatures {
@@ -44,7 +44,7 @@ impl Signatures {
         requires some { 1 ≤ states }
         requires few { states ≤ MOST_STATES }
         ensures states { IfOk result (λ g. length g ≡ states) }
-        ensures empty { IfOk result (λ g. (s : ℕ) → s < states → signature_at g s ≡ []) }
+        ensures empty { IfOk result (λ g. (s : ℕ) → s < states → list_at g s ≡ []) }
     {
         Ok(Signatures {
             alloc,
@@ -63,7 +63,7 @@ impl Signatures {
     /// Returns the signature of the state `s`.
     pub fn of(&self, s: u32) -> &[(u32, u32)]
         requires { s < length self.now }
-        ensures { result.now ≡ signature_at self.now s }
+        ensures { result.now ≡ list_at self.now s }
     {
         self.interned.of(self.signature_ids[s as usize])
     }
@@ -85,7 +85,7 @@ impl Signatures {
 
         // On success
         ensures signed { OnOk result ((s : ℕ) → s < l.now.states →
-            IsSignature S.relation l.now p.now s (signature_at self.new s)) }
+            IsSignature S.relation l.now p.now s (list_at self.new s)) }
 
         // Always
         ensures visits { let n = length l.now.places in Visits M.counted m.old m.new result n n }
@@ -94,8 +94,7 @@ impl Signatures {
     {
         let blocks = copied(self.alloc, p)?;
         let (interned, signature_ids) = sign_all::<S, M>(self.alloc, l, blocks, m)?;
-        let whole = SignatureBuffer::new(self.alloc, &interned)?;
-        self.interned = whole;
+        self.interned = SignatureBuffer::new(self.alloc, &interned)?;
         self.signature_ids = signature_ids;
         Ok(())
     }
@@ -108,7 +107,7 @@ impl Signatures {
         ensures blocks { IfOk result (λ q. (s t : ℕ) → s < length p.now → t < length p.now →
             (slice_index q s ≡ slice_index q t)
             ↔ ((slice_index p.now s ≡ slice_index p.now t)
-            × (signature_at self.now s ≡ signature_at self.now t))) }
+            × (list_at self.now s ≡ list_at self.now t))) }
         ensures numbered { IfOk result IsSomePartition }
     {
         let blocks = copied(self.alloc, p)?;

@@ -29,12 +29,13 @@ impl Model for SignatureBuffer {
 
     ghost Value = { List (List (ℕ × ℕ)) };
 
+    ghost use Rattle.std.specs.List.{All};
     ghost use Rattle.signatures.specs.Lists.{AreLists};
-    ghost use Rattle.refine.specs.Spans.{signatures_in, AreSpans};
+    ghost use Rattle.refine.specs.Spans.{signatures_in, IsSpan};
 
     ghost view = { λ x. signatures_in x.pairs.items x.spans.items };
 
-    ghost invariant = { λ x. AreSpans x.pairs.items x.spans.items
+    ghost invariant = { λ x. All (IsSpan x.pairs.items) x.spans.items
         × AreLists (signatures_in x.pairs.items x.spans.items) };
 }
 

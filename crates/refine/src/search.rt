@@ -1,14 +1,13 @@
 //! Computes the branching signature of one state by a search along inert transitions, which are internal transitions
 //! within a block. The search reads the transitions of each state that it finds exactly once.
 ghost use Rattle.std.specs.Prelude.{◌≡◌, ℕ, ◌+◌, ◌<◌, ◌≤◌, [], length, slice_index, IfOk, OnOk};
-ghost use Rattle.std.specs.Io.{StartsWith};
 ghost use Rattle.theory.specs.declared.relation.Relation.TheVariants.{Branching};
 ghost use Rattle.lts.specs.Meter.{HasRoomFor, Visits};
 ghost use Rattle.lts.specs.Lts.{row_of};
 ghost use Rattle.inert.specs.Signed.{IsSignature};
 ghost use Rattle.inert.specs.declared.lens.Step.TheVariants.{Inert};
 ghost use Rattle.refine_core.specs.Index.{AreMarked, IsUnmarked};
-ghost use Rattle.refine.specs.Search.{IsClear, Reaches, ExploresStep, FindsFrom};
+ghost use Rattle.refine.specs.Search.{IsClear, Reaches, ExploresStep, FindsFrom, Continues};
 
 use inert::{Lens, Step};
 use lts::{Lts, Memory, Meter};
@@ -119,13 +118,11 @@ impl Search {
     /// transitions are collected.
     fn read<M: Meter>(&mut self, lens: &Lens<M>, s: u32, i: usize, m: &mut M) -> Result<(), Memory>
         requires visited { lens.now.visited ≡ [] }
-        requires state { s < lens.now.l.states }
         requires found { FindsFrom lens.now s self.old i }
         requires more { i < length self.old.states }
         requires room { HasRoomFor (M.counted m.old) 0
             (length (row_of (slice_index self.old.states i) lens.now.l.places)) }
-        ensures found { OnOk result (FindsFrom lens.now s self.new (i + 1)) }
-        ensures kept { OnOk result (StartsWith self.new.states self.old.states) }
+        ensures found { OnOk result (Continues lens.now s self.old self.new (i + 1)) }
         ensures size { length self.new.marked ≡ length self.old.marked }
         ensures visits { let t = slice_index self.old.states i in
             let row = length (row_of t lens.now.l.places) in
@@ -153,9 +150,10 @@ impl Search {
         ensures size { length self.new.marked ≡ length self.old.marked }
     {
         match step {
-            Step::Inert(t) => self.reach(t),
-            Step::Shows(label, block) => Ok(self.pairs.push((label, block))?),
+            Step::Inert(t) => self.reach(t)?,
+            Step::Shows(label, block) => self.pairs.push((label, block))?,
         }
+        Ok(())
     }
 
     /// Marks the state `t` and appends it to the found states. Does nothing if the search has found `t` before.

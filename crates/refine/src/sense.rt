@@ -1,11 +1,11 @@
 //! Computes the signature of a single state. The type `Marks` owns the working memory for this computation.
-ghost use Rattle.std.specs.Prelude.{◌≡◌, ◌<◌, ◌≤◌, length, IfOk, OnOk, OnErr};
+ghost use Rattle.std.specs.Prelude.{◌≡◌, ℕ, ◌<◌, ◌≤◌, ◌++◌, List, length, IfOk, OnOk, OnErr};
 ghost use Rattle.theory.specs.declared.relation.Relation.TheVariants.{Strong as strong};
 ghost use Rattle.memory.specs.declared.limits.TheConstants.{MOST_STATES};
 ghost use Rattle.lts.specs.Meter.{HasRoomFor, Visits};
 ghost use Rattle.lts.specs.Lts.{row_of};
 ghost use Rattle.inert.specs.Signed.{IsSignature};
-ghost use Rattle.refine.specs.Signed.{Extends, Appends, most_visits};
+ghost use Rattle.refine.specs.Signed.{Appends, most_visits};
 
 use crate::search::Search;
 use lts::{Lts, Memory, Meter};
@@ -17,20 +17,10 @@ use std::marker::Model;
 
 /// The working memory for computing signatures. The same memory can be used for many states and for many rounds. The
 /// signatures that were computed before do not affect the signatures that are computed later.
+#[derive(Drop)]
 pub struct Marks {
     states: u32,
     search: Search,
-}
-
-/// `Drop` is implemented explicitly, so that dropping a value takes only one function call. A derived implementation
-/// would make one call for each field.
-impl Drop for Marks {
-    fn drop(self) {
-        let Marks {
-            states: _,
-            search: _,
-        } = self;
-    }
 }
 
 impl Model for Marks {
@@ -88,7 +78,8 @@ pub trait Sense: Signing {
             (Appends Self.relation l.now p.now s out.old.items out.new.items) }
 
         // On failure
-        ensures extends { OnErr result (Extends out.old.items out.new.items) }
+        ensures extends { OnErr result
+            ((more : List (ℕ × ℕ)) × (out.new.items ≡ out.old.items ++ more)) }
 
         // Always
         ensures visits { let row = length (row_of s l.now.places) in
@@ -106,7 +97,8 @@ impl Sense for Strong {
         m: &mut M,
     ) -> Result<(), Memory> {
         sign(l, p.blocks(), s, &mut marks.search.pairs, m)?;
-        Ok(out.extend_from_slice(&marks.search.pairs)?)
+        out.extend_from_slice(&marks.search.pairs)?;
+        Ok(())
     }
 }
 
@@ -147,6 +139,7 @@ impl Sense for Branching {
         m: &mut M,
     ) -> Result<(), Memory> {
         marks.search.sign(l, p.blocks(), s, m)?;
-        Ok(out.extend_from_slice(&marks.search.pairs)?)
+        out.extend_from_slice(&marks.search.pairs)?;
+        Ok(())
     }
 }

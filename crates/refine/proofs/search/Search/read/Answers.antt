@@ -1,13 +1,9 @@
-use Rattle.std.proofs.Common.{◌≡◌, ℕ, ◌∙◌, ◌+◌, ◌≤◌, ◌<◌, List, [], length, slice_index, All, ap, sym, subst, arith}
-use Rattle.std.proofs.Common.{rules}
-use Rattle.std.proofs.Transfers.{starts_with_length, starts_with_trans}
-use Rattle.std.proofs.lemmas.List.{get_or_read, get_or-take, take_all}
-use Rattle.std.proofs.lemmas.List.Elements.{All-push, All-weaker, Contains-get_or}
+use Rattle.std.proofs.Common.{rules, ◌≡◌, ℕ, ◌∙◌, ◌+◌, ◌≤◌, ◌<◌, List, [], length, slice_index, ap, sym, arith}
+use Rattle.std.proofs.Transfers.{starts_with_length}
+use Rattle.std.proofs.lemmas.List.{get_or_read, get_or-take}
 use borrow.Author.Count.{below_more}
-use Rattle.lts.specs.Lts.{place_at, row_of, IsRow}
+use Rattle.lts.specs.Lts.{IsRow}
 use Rattle.lts.specs.Visited.{price}
-use Rattle.inert.specs.Steps.{IsStep}
-use Rattle.refine.specs.Search.{IsExplored}
 use Rattle.refine.proofs.Searching.{went}
 use Rattle.refine.proofs.search.Search.read.Given.{Over}
 use Rattle.refine.proofs.search.Search.read.Goals as goal
@@ -34,44 +30,27 @@ step-step-requires-clause-room g c =
 pub loop-k-preserved : goal.loop-k-preserved
 loop-k-preserved g c =
     let u = c.args.lens.now in
-    let s = c.args.s in
     let k = c.loop-k.k in
-    let e = place_at u.l.places k in
     let its = row g (goal.at.loop-k-preserved g c).After-row-start in
-    let was = c.loop-k.invariant.row in
-    let from : c.row-start.result.0 ≤ k = omega (arith, c.loop-k.auto.k) in
     let at : k < length u.l.places = omega (arith, its.within, c.loop-k-test.true) in
-    let in_row = (c.rows_are_steps.ensures.sources _ u.l.places e).1
-    (Contains-get_or u.l.places k (0, 0, 0) at, (its.exactly k at).1 (from, c.loop-k-test.true)) in
-    let done = went u s c.invariants.ensures.lts c.invariants.ensures.laws c.rows_are_steps.ensures.sources
-    (c.rows_are_steps.ensures.steps u.l) c.inert_steps_stay.ensures.block _ c.args.i was.search _
-    (c.requires.found.led c.args.i c.requires.more) e in_row c.step-step.result c.explore.new.self
-    (subst (λ xs. IsStep u (slice_index xs s) e c.step-step.result) c.blocks-2.ensures c.step-step.ensures.step)
-    c.in_ok-explore.ensures.takes in
+    let from = (its.exactly k at).1 (omega (arith, c.loop-k.auto.k), c.loop-k-test.true) in
+    let step = rw c.blocks-2.ensures at c.step-step.ensures.step in
     record {
-      row = record {
-        search = done.search;
-        kept = starts_with_trans _ _ _ done.kept was.kept;
-        taken = subst (All (IsExplored u s c.explore.new.self))
-            (sym (c.rows_follow.ensures.inside u.l.places _ c.row-start.result.0 _ k its from c.loop-k-test.true))
-            (All-push (IsExplored u s c.explore.new.self) _ e
-            (All-weaker (IsExplored u s c.loop-k.self) _ done.keeps _ was.taken) done.now);
-      };
+      row = went u c.args.s c.invariants.ensures.lts c.invariants.ensures.laws c.rows_are_steps.ensures.sources
+          (c.rows_are_steps.ensures.steps u.l) c.inert_steps_stay.ensures.block c.loop-k.invariant.row
+          (c.requires.found.led c.args.i c.requires.more) at from _ _ step c.in_ok-explore.ensures.takes;
       size = c.explore.ensures.size ∙ c.loop-k.invariant.size;
       cost = search (rules, one_visit c.requires.visited k);
     }
 
 pub returns-clause-found : goal.returns-clause-found
 returns-clause-found g c =
-    let u = c.args.lens.now in
     let i = c.args.i in
     let f = c.loop-k.self in
     let was = c.loop-k.invariant.row in
     let its = row g (goal.at.returns-clause-found g c).After-row-start in
-    let same = sym (ap (λ xs. slice_index xs i) was.kept) ∙ get_or-take _ f.states i 0 c.requires.more in
-    let few : i + 1 ≤ length f.states = omega (arith, c.requires.more, starts_with_length _ _ was.kept) in
-    let row = subst (λ t. All (IsExplored u c.args.s f) (row_of t u.l.places)) same
-    (subst (All (IsExplored u c.args.s f)) (take_all _ _ (omega (arith, its.count, c.loop-k-test.false))) was.taken) in
-    let taken : (j : ℕ) → j < i + 1 → All (IsExplored u c.args.s f) (row_of (slice_index f.states j) u.l.places) =
-    below_more _ i was.search.taken row in
-    search (rules, was.search, few, taken)
+    let same = sym (ap (λ xs. slice_index xs i) was.on.kept) ∙ get_or-take _ f.states i 0 c.requires.more in
+    let few : i + 1 ≤ length f.states = omega (arith, c.requires.more, starts_with_length _ _ was.on.kept) in
+    let taken = below_more _ i was.on.search.taken (λ k at is. let range = (its.exactly k at).0 (is ∙ sym same) in
+    was.taken k (omega (arith, range.1, c.loop-k-test.false)) range.0) in
+    search (rules, was.on, few, taken)
