@@ -6,16 +6,31 @@ use Rattle.std.proofs.lemmas.Grind.{common_steps}
 use Rattle.std.specs.List.{All}
 use Rattle.std.specs.List.Sorted.{IsNonDecreasingBy}
 use Rattle.std.proofs.lemmas.Bool.{cases_lt}
-use Rattle.std.proofs.lemmas.List.{length_push, append_assoc, map-append, map_push, get_or_push, places, same_lists}
+use Rattle.std.proofs.lemmas.List.{length_push, append_assoc, map-append, map_push, take_more, get_or_push, places, same_lists}
 use Rattle.std.proofs.lemmas.List.{length-append, length-map}
 use Rattle.std.proofs.lemmas.List.Elements.{All-map, Contains-push, Contains-append_left}
 use Rattle.theory.specs.System.{Transition}
 use Rattle.theory.specs.Union.{shifted, union_of}
 use Rattle.lts.specs.Labels.{text_of, IsLabelId, IsTable, KeepsLabels, Interns}
-use Rattle.lts.specs.Lts.{Triple, source_of, label_of, target_of, transition_of, system_of, grouped, IsTriple, IsLts}
+use Rattle.lts.specs.Lts.{Triple, source_of, label_of, target_of, place_at, transition_of, system_of, grouped, IsTriple, IsLts}
 use Rattle.lts.specs.Lts.{IsUsedLabel, Grouped, IsBuilt}
 use Rattle.lts.specs.Union.{IsJoined, AddsShifted}
 use Rattle.lts.proofs.Grouped.{ascending-append, ascending-map, ascending-from_map, grouped-same}
+
+-- Suppose that each label of the old label table has the same ID in the new label table. Then the triples (source,
+-- label ID, target) represent the same transitions with the new table as with the old table.
+transitions-kept : (old new : List (List ℕ)) (states : ℕ) (es : List Triple) → KeepsLabels old new →
+    All (IsTriple (length old) states) es → map (transition_of new) es ≡ map (transition_of old) es
+transitions-kept old new states [] keeps h = refl
+transitions-kept old new states (e ∷ es) keeps h = let text = keeps.texts (label_of e) (h 0 e (omega arith)).label in
+    let rest = transitions-kept old new states es keeps (λ k d l. h (suc k) d (omega arith)) in
+    search rules
+
+-- If two transitions have equal sources, labels and targets, they are equal.
+pub transition-same : (s s' t t' : ℕ) (a a' : List ℕ) → s ≡ s' → a ≡ a' → t ≡ t' →
+    ◌≡◌ {A = Transition} (record { source = s; label = a; target = t })
+    (record { source = s'; label = a'; target = t' })
+transition-same s s' t t' a a' p q r = search rules
 
 -- These lemmas assume that a triple e (source, label ID, target) with the label a is appended to the list es.
 module _ (old new : List (List ℕ)) (states : ℕ) (es : List Triple) (e : Triple) (a : List ℕ)
@@ -35,27 +50,23 @@ module _ (old new : List (List ℕ)) (states : ℕ) (es : List Triple) (e : Trip
     ]
   ]
 
-  pub IsJoined-push : source_of e < states → target_of e < states → IsJoined new states (es ++ e ∷ [])
-  IsJoined-push source target = grind (arith, common_steps, carried_all)
-
--- Suppose that each label of the old label table has the same ID in the new label table. Then the triples (source,
--- label ID, target) represent the same transitions with the new table as with the old table.
-transitions-kept : (old new : List (List ℕ)) (states : ℕ) (es : List Triple) → KeepsLabels old new →
-    All (IsTriple (length old) states) es → map (transition_of new) es ≡ map (transition_of old) es
-transitions-kept old new states [] keeps h = refl
-transitions-kept old new states (e ∷ es) keeps h = let text = keeps.texts (label_of e) (h 0 e (omega arith)).label in
-    let rest = transitions-kept old new states es keeps (λ k d l. h (suc k) d (omega arith)) in
-    search rules
-
-pub AddsShifted-push : (shift : ℕ) (t : Transition) (old new : List (List ℕ)) (states : ℕ) (es : List Triple)
-    (e : Triple) → KeepsLabels old new → All (IsTriple (length old) states) es → transition_of new e ≡ shifted shift t →
-    AddsShifted shift (t ∷ []) old es new (es ++ e ∷ [])
-AddsShifted-push shift t old new states es e keeps h same =
-    let kept = transitions-kept old new states es keeps h in search (rules, map_push, kept)
-
-pub AddsShifted-more : (shift : ℕ) (ts us : List Transition) (l0 l1 l2 : List (List ℕ)) (e0 e1 e2 : List Triple) →
-    AddsShifted shift ts l0 e0 l1 e1 → AddsShifted shift us l1 e1 l2 e2 → AddsShifted shift (ts ++ us) l0 e0 l2 e2
-AddsShifted-more shift ts us l0 l1 l2 e0 e1 e2 a b = search (rules, append_assoc, map-append)
+  -- Suppose that the triples es represent the first k transitions of the system l, and that the triple e represents the
+  -- transition at the place k, which is the index k in the list of all transitions. Then es followed by e represent the
+  -- first k + 1 transitions of l. In the triples, `shift` is added to the states of l.
+  pub joins_next : (l0 : List (List ℕ)) (e0 : List Triple) (shift : ℕ) (l : Grouped) (k : ℕ)
+      → states ≡ shift + l.states → k < length l.places → IsTriple (length l.labels) l.states (place_at l.places k)
+      → source_of e ≡ shift + source_of (place_at l.places k) → a ≡ text_of l.labels (label_of (place_at l.places k))
+      → target_of e ≡ shift + target_of (place_at l.places k)
+      → AddsShifted shift (map (transition_of l.labels) (take k l.places)) l0 e0 old es
+      → IsJoined new states (es ++ e ∷ [])
+      × AddsShifted shift (map (transition_of l.labels) (take (k + 1) l.places)) l0 e0 new (es ++ e ∷ [])
+  joins_next l0 e0 shift l k size h is source label target up =
+      let kept = transitions-kept old new states es keeps g.each in
+      let line : transition_of new e ≡ shifted shift (transition_of l.labels (place_at l.places k)) =
+      transition-same _ _ _ _ _ _ source (number.text ∙ label) target in (
+        grind (arith, common_steps, carried_all),
+        rw (take_more l.places k (0, 0, 0) h) (search (rules, map_push, map-append, append_assoc, kept, line, up)),
+      )
 
 -- Suppose that triples for the transitions us are appended to the list of triples. Then the number of triples increases
 -- by the number of transitions in us.
@@ -67,12 +78,6 @@ AddsShifted-length shift f us l0 l1 e0 e1 h = let size = ap length h in search (
 -- up to but excluding the index j.
 pub take-split : {X : Type 0} (i j : ℕ) (xs : List X) → i ≤ j → take j xs ≡ take i xs ++ take (j - i) (drop i xs)
 take-split i j xs h = same_lists _ _ (search (rules, places)) (λ k d l. grind (arith, places))
-
--- If two transitions have equal sources, labels and targets, they are equal.
-pub transition-same : (s s' t t' : ℕ) (a a' : List ℕ) → s ≡ s' → a ≡ a' → t ≡ t' →
-    ◌≡◌ {A = Transition} (record { source = s; label = a; target = t })
-    (record { source = s'; label = a'; target = t' })
-transition-same s s' t t' a a' p q r = search rules
 
 -- The sources of the transitions of a union are in ascending order, because the states of the second system come after
 -- the states of the first system.

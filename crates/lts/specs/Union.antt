@@ -16,6 +16,12 @@ pub record FitTogether (a b : Grouped) : Type 0 where
 
 -- The following definitions are private to the module `disjoint`, which computes the union.
 
+-- `FitsBehind` holds if the system l can be appended to a part of a union that has n states and m transitions: the total
+-- numbers of states and transitions must be within the limits for one system.
+pub record FitsBehind (n m : ℕ) (l : Grouped) : Type 0 where
+  pub states : n + l.states ≤ MOST_STATES
+  pub transitions : m + length l.places ≤ MOST_TRANSITIONS
+
 -- `IsJoined` holds if the sources and targets of the triples es are below `states`, and each label in the table
 -- `labels` is the label of some triple in es. So the number of labels is at most the number of triples.
 pub record IsJoined (labels : List (List ℕ)) (states : ℕ) (es : List Triple) : Type 0 where

@@ -6,7 +6,7 @@ ghost use Rattle.memory.specs.declared.limits.TheConstants.{MOST_LABELS};
 ghost use Rattle.lts.specs.Labels.{IsLabelId, IsTable, Interns, KeepsLabels};
 ghost use Rattle.lts.specs.Meter.{HasRoomFor, Visits};
 ghost use Rattle.lts.specs.Lts.{system_of, IsUsedLabel};
-ghost use Rattle.lts.specs.Union.{FitTogether, IsJoined, AddsShifted};
+ghost use Rattle.lts.specs.Union.{FitTogether, FitsBehind, IsJoined, AddsShifted};
 
 use crate::labels::Labels;
 use crate::lts::Lts;
@@ -42,16 +42,11 @@ pub fn union<M: Meter>(alloc: Global, a: &Lts<M>, b: &Lts<M>, m: &mut M) -> Resu
     let mut joined = Joined {
         labels: Labels::new(alloc),
         triples: Vec::with_capacity(alloc, (a.edges() + b.edges()) as usize)?,
-        guesses,
     };
-    joined.append(&Part { l: a, shift: 0 }, m)?;
+    joined.append(&Part { l: a, shift: 0 }, &mut guesses, m)?;
     let shift = a.states();
-    joined.append(&Part { l: b, shift }, m)?;
-    let Joined {
-        labels,
-        triples,
-        ..
-    } = joined;
+    joined.append(&Part { l: b, shift }, &mut guesses, m)?;
+    let Joined { labels, triples } = joined;
     Lts::build(alloc, labels, a.first(), a.states() + b.states(), triples)
 }
 
@@ -68,17 +63,20 @@ struct Part<'a, M: Meter> {
 struct Joined {
     labels: Labels,
     triples: Vec<(u32, u32, u32)>,
-    /// For each label of the system that is being appended, this vector has the ID that the label may have in `labels`.
-    guesses: Vec<u32>,
 }
 
 impl Joined {
-    fn append<M: Meter>(&mut self, part: &Part<M>, m: &mut M) -> Result<(), Memory>
-        requires few_states { part.now.shift + part.now.l.now.states ≤ MOST_STATES }
-        requires few { length self.old.triples.items + length part.now.l.now.places
-            ≤ MOST_TRANSITIONS }
+    /// Appends the transitions of one of the two systems. For each label of this system, the list `guesses` has the ID
+    /// that the label may have in the label table of the union.
+    fn append<M: Meter>(
+        &mut self,
+        part: &Part<M>,
+        guesses: &mut [u32],
+        m: &mut M,
+    ) -> Result<(), Memory>
+        requires fits { FitsBehind part.now.shift (length self.old.triples.items) part.now.l.now }
         requires joined { IsJoined self.old.labels part.now.shift self.old.triples.items }
-        requires guesses { length part.now.l.now.labels ≤ length self.old.guesses.items }
+        requires guesses { length part.now.l.now.labels ≤ length guesses.old }
         requires room { HasRoomFor (M.counted m.old) 0 (length part.now.l.now.places) }
 
         // On success
@@ -88,7 +86,6 @@ impl Joined {
         ensures added { let all = (system_of part.now.l.now).transitions in
             OnOk result (AddsShifted part.now.shift all self.old.labels self.old.triples.items
             self.new.labels self.new.triples.items) }
-        ensures guesses { length self.new.guesses.items ≡ length self.old.guesses.items }
 
         // Always
         ensures visits { let n = length part.now.l.now.places in
@@ -103,38 +100,41 @@ impl Joined {
                 continue;
             }
             let (label, target) = l.edge(k, m);
-            let number = self.label_id(l.labels().text(label), label)?;
+            let number = label_id(&mut self.labels, guesses, l.labels().text(label), label)?;
             self.triples.push((shift + state, number, shift + target))?;
             k += 1;
         }
         Ok(())
     }
+}
 
-    /// Returns the ID of `label` in the label table of the union. If the table does not contain `label`, the label is
-    /// appended. The number `there` is the ID of `label` in the label table of its own system. The vector `guesses`
-    /// has, at the index `there`, the ID that `label` may have in the union. If `label` has this ID, the table need not
-    /// be searched.
-    fn label_id(&mut self, label: &[u8], there: u32) -> Result<u32, Memory>
-        requires label { IsLabel label.now }
-        requires room { length self.old.labels < MOST_LABELS }
-        requires there { there < length self.old.guesses.items }
+/// Returns the ID of `label` in the label table of the union. If the table does not contain `label`, the label is
+/// appended. The number `there` is the ID of `label` in the label table of its own system. The list `guesses` has, at
+/// the index `there`, the ID that `label` may have in the union. If `label` has this ID, the table need not be
+/// searched.
+fn label_id(
+    labels: &mut Labels,
+    guesses: &mut [u32],
+    label: &[u8],
+    there: u32,
+) -> Result<u32, Memory>
+    requires label { IsLabel label.now }
+    requires room { length labels.old < MOST_LABELS }
+    requires there { there < length guesses.old }
 
-        // On success
-        ensures number { IfOk result (λ k. IsLabelId self.new.labels k label.now) }
-        ensures table { OnOk result (Interns self.old.labels label.now self.new.labels) }
+    // On success
+    ensures number { IfOk result (λ k. IsLabelId labels.new k label.now) }
+    ensures table { OnOk result (Interns labels.old label.now labels.new) }
 
-        // Always
-        ensures keeps { KeepsLabels self.old.labels self.new.labels }
-        ensures is_table { IsTable self.new.labels }
-        ensures triples { self.new.triples ≡ self.old.triples }
-        ensures guesses { length self.new.guesses.items ≡ length self.old.guesses.items }
-    {
-        let guess = self.guesses[there as usize];
-        if self.labels.has(guess, label) {
-            return Ok(guess);
-        }
-        let number = self.labels.intern(label)?;
-        self.guesses[there as usize] = number;
-        Ok(number)
+    // Always
+    ensures keeps { KeepsLabels labels.old labels.new }
+    ensures is_table { IsTable labels.new }
+{
+    let guess = guesses[there as usize];
+    if labels.has(guess, label) {
+        return Ok(guess);
     }
+    let number = labels.intern(label)?;
+    guesses[there as usize] = number;
+    Ok(number)
 }

@@ -7,7 +7,7 @@ use Rattle.lts.proofs.Joining.{AddsShifted-both, AddsShifted-length, IsUnion, un
 use Rattle.lts.proofs.disjoint.union.Given.{Over}
 use Rattle.lts.proofs.disjoint.union.Goals as goal
 
-made : (g : Over) (c : goal.After-drop-joined-2 g) → IfOk c.build.result (IsUnion c.args.a.now c.args.b.now)
+made : (g : Over) (c : goal.After-drop-guesses-2 g) → IfOk c.build.result (IsUnion c.args.a.now c.args.b.now)
 made g c = let a = c.args.a.now in let b = c.args.b.now in let labels = c.append-2.new.self.labels in
     let es = c.append-2.new.self.triples.items in
     let states : c.states.result + c.states-2.result ≡ a.states + b.states =
@@ -25,10 +25,13 @@ returns g c = record {
   visits = grind (arith, c.in_ok-append.ensures.visits, c.in_ok-append-2.ensures.visits);
 }
 
-pub append-requires-2-clause-few : goal.append-requires-2-clause-few
-append-requires-2-clause-few g c =
+pub append-requires-2-clause-fits : goal.append-requires-2-clause-fits
+append-requires-2-clause-fits g c =
     let size = AddsShifted-length _ _ c.args.a.now.places _ _ _ _ c.in_ok-append.ensures.added in
-    omega (arith, size, ap length c.in_ok-with_capacity.ensures.items, c.requires.fit.transitions)
+    record {
+      states = omega (arith, c.states-shift.ensures.value, c.requires.fit.states);
+      transitions = omega (arith, size, ap length c.in_ok-with_capacity.ensures.items, c.requires.fit.transitions);
+    }
 
 pub build-requires : goal.build-requires
 build-requires g c = let joined = c.in_ok-append-2.ensures.joined in

@@ -1,4 +1,4 @@
-use Rattle.std.proofs.Common.{◌≡◌, ◌+◌, ◌-◌, ◌<◌, ◌≤◌, length, take, map}
+use Rattle.std.proofs.Common.{◌+◌, ◌-◌, ◌<◌, ◌≤◌, length, take, map}
 use Rattle.lts.specs.Meter.{Costs}
 use Rattle.lts.specs.Lts.{before, transition_of}
 use Rattle.lts.specs.Union.{IsJoined, AddsShifted}
@@ -10,7 +10,6 @@ invariant-loop-k g l =
       state : l.state < all.states;
       begins : before l.state all.places ≤ l.k;
       ends : l.k ≤ before (l.state + 1) all.places;
-      guesses : length l.self.guesses.items ≡ length l.initial.self.guesses.items;
       joined : IsJoined l.self.labels (l.part.shift + all.states) l.self.triples.items;
       added : AddsShifted l.part.shift (map (transition_of all.labels) (take l.k all.places)) l.initial.self.labels
           l.initial.self.triples.items l.self.labels l.self.triples.items;
