@@ -1,7 +1,7 @@
 -- Definitions for the data of a round (`Signed`). They state what the predecessor index contains, which states are
 -- active, and which signatures are cached. A round processes only the active states. The definitions make sure that no
 -- other state has to be processed.
-use Rattle.std.specs.Prelude.{◌≡◌, ◌⊎◌, ℕ, ◌<◌, List, [], ◌∷◌, slice_index, Option, None, Some}
+use Rattle.std.specs.Prelude.{◌≡◌, ◌⊎◌, ℕ, ◌<◌, List, [], ◌∷◌, length, slice_index, Option, None, Some}
 use Rattle.theory.specs.declared.relation.Relation.{Relation}
 use Rattle.theory.specs.declared.relation.Relation.TheVariants.{Strong, Branching}
 use Rattle.lts.specs.Lts.{Grouped, row_of}
@@ -55,11 +55,12 @@ RestartsOrSearches (Searched e) rel l old r = Restarts l r.blocks r.signatures r
 RestartsOrSearches (Pending e) rel l old r =
     ¬ (old ≡ None) × (rel ≡ Branching → CachesIds l r.blocks.block_ids r.signatures r.cached old)
 
--- `Awaits` holds if r, the data of a round (`Signed`), is ready for a new round. The blocks of r must result from the
--- blocks `old` of the last round (`Follows`). If there is a predecessor index, a search of this index must be pending,
+-- `Awaits` holds if r, the data of a round (`Signed`), is ready for a new round. Each state must have a block ID, and the
+-- blocks of r must result from the blocks `old` of the last round (`Follows`). If there is a predecessor index, a search of this index must be pending,
 -- or the round must process all states again (`RestartsOrSearches`). If there is no predecessor index, each state must
 -- be active (processed by the round), be in a singleton block, or have no transition (`AreAllActiveOrIndexed`).
 pub record Awaits (rel : Relation) (l : Grouped) (r : Signed) : Type 0 where
+  pub states : length r.blocks.block_ids ≡ l.states
   pub old : Option (List ℕ)
   pub follows : Follows rel l old r.blocks.block_ids r.blocks.first_new
   pub index : AreAllActiveOrIndexed r.index_state rel l r.blocks

@@ -15,7 +15,6 @@ use Rattle.refine_core.specs.IndexState.{Awaits}
 -- result of splitting the blocks `of` by signatures (`Split`). There were `count` blocks before the round, so a block
 -- of q is new if its ID is at least `count`. The next round must be able to begin with the data q (`Awaits`).
 pub record IsNextRound (rel : Relation) (l : Grouped) (of : List ℕ) (count : ℕ) (q : Signed) : Type 0 where
-  pub states : length q.blocks.block_ids ≡ l.states
   pub split : Split rel (system_of l) (slice_index of) (slice_index q.blocks.block_ids)
   pub blocks : AreBlocks q.blocks.block_ids q.blocks.count
   pub first_new : q.blocks.first_new ≡ count

@@ -116,7 +116,6 @@ fn next_round<S: Signing, M: Meter>(
     l: &Lts<M>,
     m: &mut M,
 ) -> Result<SignedBlocks, Memory>
-    requires states { length round.blocks.block_ids ≡ l.now.states }
     requires ready_for_round { Awaits S.relation l.now round }
     requires room { HasRoomFor (M.counted m.old) 1 (length l.now.places) }
 

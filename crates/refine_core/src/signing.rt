@@ -28,7 +28,6 @@ pub trait Signing {
     /// rounds in which few of the blocks were new (`SignedBlocks::begin_index`). A block is new if the last split has
     /// made it.
     fn begin<M: Meter>(l: &Lts<M>, round: SignedBlocks, m: &mut M) -> Result<SignedBlocks, Memory>
-        requires states { length round.blocks.block_ids ≡ l.now.states }
         requires absent { round.index_state ≡ Absent }
         requires ready_for_round { Awaits relation l.now round }
         requires none { round.visited ≡ [] }
@@ -73,7 +72,6 @@ pub(crate) fn sign_each<S: Signing, M: Meter>(
     round: SignedBlocks,
     m: &mut M,
 ) -> Result<SignedBlocks, Memory>
-    requires states { length round.blocks.block_ids ≡ l.now.states }
     requires ready_for_round { Awaits S.relation l.now round }
     requires room { HasRoomFor (M.counted m.old) 0 (length l.now.places) }
 
@@ -153,7 +151,6 @@ fn begin_round<S: Signing, M: Meter>(
     round: SignedBlocks,
     m: &mut M,
 ) -> Result<SignedBlocks, Memory>
-    requires states { length round.blocks.block_ids ≡ l.now.states }
     requires ready_for_round { Awaits S.relation l.now round }
     requires room { HasRoomFor (M.counted m.old) 0 (length l.now.places) }
 

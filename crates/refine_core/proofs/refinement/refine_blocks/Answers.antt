@@ -25,9 +25,8 @@ loop-before-init g c =
     let one = one_block l.states ids c.states.result (sym c.states.ensures.value) blocks.one in
     let on = c.refinement_goes_on.ensures.begun rel (system_of l) (slice_index ids) c.states.ensures.lts.system one in
     record {
-      states = rw is (blocks.states ∙ c.states.ensures.value);
-      awaits = awaits_unindexed rel l c.in_ok-round.round None (ap (λ b. b.first_new) is ∙ blocks.count.1)
-          c.in_ok-round.ensures.absent
+      awaits = awaits_unindexed rel l c.in_ok-round.round None (rw is (blocks.states ∙ c.states.ensures.value))
+          (ap (λ b. b.first_new) is ∙ blocks.count.1) c.in_ok-round.ensures.absent
           (λ s h. ⊎_map (λ one. rw (is, blocks.active) one) inr (c.in_ok-active.ensures.rows s h));
       made = rw is
           (record { rounds = 0; fewer = omega arith; past = []; were = (one, tt); underway = on; costs = omega arith });
@@ -64,8 +63,8 @@ module _ (g : Over) (c : After-count-more g) where
   were : let of = c.in_ok-next.next.blocks.block_ids in let past = old.block_ids ∷ c.loop-before.invariant.made.past in
       AreRounds g.S.Signing.relation (system_of c.args.l.now) of past × WereHalved of past
   were = let made = c.loop-before.invariant.made in
-      let size = sym c.loop-before.invariant.states in
-      let half = halved old.block_ids c.in_ok-next.next.blocks.block_ids old.count (next.states ∙ size)
+      let size = sym c.loop-before.invariant.awaits.states in
+      let half = halved old.block_ids c.in_ok-next.next.blocks.block_ids old.count (next.awaits.states ∙ size)
       (λ s h. next.stays s (omega (arith, h, size))) next.halves in
       ((next.split, made.were.0), (half, made.were.1))
 
@@ -93,7 +92,7 @@ returns-then-more-count-clause-bisimilar g c =
 pub returns-then-more-count-clause-few : goal.returns-then-more-count-clause-few
 returns-then-more-count-clause-few g c =
     let (rounds, halves) = were g (goal.at.returns-then-more-count-clause-few g c).After-count-more in
-    let states = c.in_ok-next.ensures.next.states in
+    let states = c.in_ok-next.ensures.next.awaits.states in
     let last = c.in_ok-next.next.blocks.block_ids in
     let past = c.loop-before.round.blocks.block_ids ∷ c.loop-before.invariant.made.past in
     rw c.into_blocks-blocks.ensures (record {
@@ -124,7 +123,6 @@ loop-before-preserved g c =
     let fewer = c.refinement_goes_on.ensures.below rel A _ _ system on in
     let costs = costs g d in
     record {
-      states = next.states;
       awaits = next.awaits;
       made = record { rounds = _; fewer = fewer; past = _ ∷ made.past; were = were g d; underway = on; costs = costs };
     }

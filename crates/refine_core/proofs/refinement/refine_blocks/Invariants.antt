@@ -1,11 +1,10 @@
-use Rattle.std.proofs.Common.{◌≡◌, ◌-◌, length}
+use Rattle.std.proofs.Common.{◌-◌}
 use Rattle.refine_core.specs.IndexState.{Awaits}
 use Rattle.refine_core.specs.Rounds.{Made}
 use Rattle.refine_core.proofs.refinement.refine_blocks.Given as goal
 
 abbrev pub invariant-loop-before : goal.invariant-loop-before
 invariant-loop-before g l = record {
-  states : length l.round.blocks.block_ids ≡ l.l.states;
   awaits : Awaits g.S.Signing.relation l.l l.round;
   made : Made g.S.Signing.relation l.l (g.M.Meter.counted l.initial.m) (g.M.Meter.counted l.m) l.round.blocks.block_ids;
 }

@@ -23,7 +23,7 @@ returns-in_default-clause-begun g c =
     let some : ¬ (o.index_state ≡ Absent) = λ absent.
     c.in_default.not-Absent (ap (λ r. r.index_state) (c.round.view_is ∙ c.clear_visited-round.ensures) ∙ absent) in
     IfOk-weaker c.find_active.result _ _
-    (λ r by. searched l c.invariants.ensures (c.rows_are_steps.ensures.steps l) o r c.requires.states some
+    (λ r by. searched l c.invariants.ensures (c.rows_are_steps.ensures.steps l) o r some
     g.S.Signing.relation by c.requires.ready_for_round)
     (rw c.clear_visited-round.ensures at c.find_active.ensures.found)
 

@@ -4,7 +4,7 @@ use Rattle.refine_core.proofs.signing.sign_each.Goals as goal
 
 pub sign_and_visit_rest-requires-clause-states : goal.sign_and_visit_rest-requires-clause-states
 sign_and_visit_rest-requires-clause-states g c =
-    ap (λ b. length b.block_ids) c.in_ok-begun.ensures.begun.blocks ∙ c.requires.states
+    ap (λ b. length b.block_ids) c.in_ok-begun.ensures.begun.blocks ∙ c.requires.ready_for_round.states
 
 pub sign_and_visit_rest-requires-clause-ready : goal.sign_and_visit_rest-requires-clause-ready
 sign_and_visit_rest-requires-clause-ready g c = (_, c.in_ok-begun.ensures.begun.is)
