@@ -1,18 +1,18 @@
 -- If a system has no internal transitions, strong and branching bisimilarity relate the same states, and refinement
 -- takes the same number of rounds for both.
-use Rattle.std.proofs.Common.{rules, ◌≡◌, ◌∙◌, ◌⊎◌, ℕ, List, [], ◌∷◌, Contains, refl, sym, subst, inl, inr}
+use Rattle.std.proofs.Common.{rules, ◌≡◌, ◌∙◌, ◌⊎◌, ℕ, ◌*◌, ◌≤◌, List, [], ◌∷◌, length, Contains, refl, sym, subst}
+use Rattle.std.proofs.Common.{inl, inr}
 use Rattle.std.proofs.lemmas.List.{get_or_default}
 use Rattle.theory.specs.System.{System, Step, Internal, Along, internal}
 use Rattle.theory.specs.Bisimulation.{Pairs, Bisimilar}
 use Rattle.theory.specs.declared.relation.Relation.{Relation}
 use Rattle.theory.specs.declared.relation.Relation.TheVariants.{Strong, Branching}
-use Rattle.theory.specs.Blocks.{Inert, Signature}
+use Rattle.theory.specs.Blocks.{Inert, Signature, Turns}
 use Rattle.theory.proofs.CallerLemmas.{strong_is_branching, branching_is_strong, SameSignatures, same_signatures_turns}
 use Rattle.lts.specs.Labels.{IsLabelId}
 use Rattle.lts.specs.Lts.{Grouped, IsLts, system_of}
-use Rattle.lts.specs.Meter.{Counts}
+use Rattle.lts.specs.Meter.{Counts, Costs}
 use Rattle.quotient_core.specs.Numbers.{AreClasses}
-use Rattle.quotient.specs.Visits.{TakesTurns}
 
 module _ (A : System) (none : (s t : ℕ) → ¬ Internal A s t) where
   stays : (blocks : ℕ → ℕ) (us : List ℕ) (s u : ℕ) → Along (Inert A blocks) s us u → s ≡ u
@@ -56,8 +56,11 @@ module _ {l : Grouped} {by rel : Relation} {labels : List (List ℕ)}
     )
   ]
 
-  pub turns_by : {old new : Counts} → TakesTurns by l old new → TakesTurns rel l old new
-  turns_by {old} {new} h = elim may [
-    | inl e ↦ subst (λ r. TakesTurns r l old new) e h
-    | inr absent ↦ let none = none absent in search (rules, same_signatures_turns, alike, none)
+  pub turns_by : {old new : Counts} → (r : ℕ) × (r ≤ l.states) × Turns by (system_of l) r
+      × Costs old new r (r * length l.places) (r * length l.places) → (r : ℕ) × (r ≤ l.states)
+      × Turns rel (system_of l) r × Costs old new r (r * length l.places) (r * length l.places)
+  turns_by (r, low, turns, costs) = elim may [
+    | inl e ↦ (r, low, subst (λ rel. Turns rel (system_of l) r) e turns, costs)
+    | inr absent ↦
+        let none = none absent in (r, low, search (rules, same_signatures_turns, alike, none), costs)
   ]

@@ -1,17 +1,7 @@
 -- Public. Defines the bounds on the numbers of rounds and visits (counted reads of transitions) that the functions of
 -- this crate make. A meter counts rounds and visits.
-use Rattle.std.specs.Prelude.{ℕ, ◌+◌, ◌*◌, ◌≤◌, length}
-use Rattle.theory.specs.declared.relation.Relation.{Relation}
-use Rattle.theory.specs.Blocks.{Turns}
-use Rattle.lts.specs.Meter.{Counts, Costs}
-use Rattle.lts.specs.Lts.{Grouped, system_of}
-
--- `TakesTurns` holds if the meter had the counts `old` before a refinement of the system g, and has the counts `new`
--- afterwards. In between, the meter must have counted exactly the rounds of this refinement. In each round, it must
--- have counted one visit (counted read) of each transition. The number of rounds must be at most the number of states.
-abbrev pub TakesTurns : Relation → Grouped → Counts → Counts → Type 0
-TakesTurns rel g old new =
-    (r : ℕ) × (r ≤ g.states) × Turns rel (system_of g) r × Costs old new r (r * length g.places) (r * length g.places)
+use Rattle.std.specs.Prelude.{ℕ, ◌+◌, ◌*◌, ◌≤◌}
+use Rattle.lts.specs.Meter.{Counts}
 
 -- `quotient_passes` is the number of passes over the transitions that minimisation makes in addition to the rounds of
 -- refinement. The first pass finds the reachable states, and the second pass builds the quotient. Each pass visits each

@@ -1,10 +1,11 @@
 //! Computes the blocks of bisimilar states by partition refinement. The relation, strong or branching bisimilarity, is
 //! known only at run time.
-ghost use Rattle.std.specs.Prelude.{◌≡◌, ◌⊎◌, ◌*◌, length, IfOk, OnOk, OnErr};
+ghost use Rattle.std.specs.Prelude.{◌≡◌, ◌⊎◌, ℕ, ◌*◌, ◌≤◌, length, IfOk, OnOk, OnErr};
 ghost use Rattle.std.specs.List.{Contains};
 ghost use Rattle.theory.specs.System.{internal};
-ghost use Rattle.lts.specs.Meter.{HasRoomFor, CostsUpTo};
-ghost use Rattle.quotient.specs.Visits.{TakesTurns};
+ghost use Rattle.theory.specs.Blocks.{Turns};
+ghost use Rattle.lts.specs.Lts.{system_of};
+ghost use Rattle.lts.specs.Meter.{HasRoomFor, Costs, CostsUpTo};
 ghost use Rattle.quotient_core.specs.Numbers.{AreClasses};
 
 use lts::{Labels, Lts, Memory, Meter};
@@ -25,7 +26,9 @@ pub(crate) fn blocks<M: Meter>(
     // On success
     ensures states { IfOk result (λ b. length b.block_ids ≡ l.now.states) }
     ensures classes { IfOk result (λ b. AreClasses r l.now b.block_ids) }
-    ensures turns { OnOk result (TakesTurns r l.now (M.counted m.old) (M.counted m.new)) }
+    ensures turns { let n = length l.now.places in OnOk result ((k : ℕ) × (k ≤ l.now.states)
+        × Turns r (system_of l.now) k
+        × Costs (M.counted m.old) (M.counted m.new) k (k * n) (k * n)) }
 
     // On failure
     ensures err { OnErr result

@@ -2,19 +2,19 @@
 -- reachable state is the quotient state that represents it. The lemmas below are about the invariant of this loop
 -- (`Taken`). The invariant holds before the loop. If it holds before a state is given its class number, it still holds
 -- afterwards. After the last state, the invariant implies that all class numbers are correct.
-use Rattle.std.proofs.Common.{cond, true, false, eqb, ◌≡◌, ◌≢◌, ◌∙◌, ◌⊎◌, ◌↔◌, ℕ, ◌+◌, ◌<◌, ◌≤◌, Bool, IsTrue, List, []}
-use Rattle.std.proofs.Common.{◌∷◌, ◌++◌, length, slice_index, replicate, set, refl, sym, ap, subst, inl, inr, arith}
+use Rattle.std.proofs.Common.{◌≡◌, ◌≢◌, ◌∙◌, ◌⊎◌, ◌↔◌, ℕ, ◌+◌, ◌<◌, ◌≤◌, Bool, IsTrue, List, [], ◌∷◌, ◌++◌, length}
+use Rattle.std.proofs.Common.{slice_index, replicate, set, refl, sym, ap, subst, inl, inr, arith}
 use Rattle.std.proofs.lemmas.Grind.{common_steps}
-use Rattle.std.proofs.lemmas.Bool.{cases_eq, cases_lt, cases_Bool, and_parts, and_from, eqb-true, eq-eqb, both_ways}
+use Rattle.std.proofs.lemmas.Bool.{cases_eq, cases_lt}
 use Rattle.std.proofs.lemmas.Bool.Decides.{nat_tests}
-use Rattle.std.proofs.lemmas.List.{append-nil, get_or-set_same, get_or-set_other, get_or-replicate, length-set}
-use Rattle.std.proofs.lemmas.List.{length-replicate, length_push}
+use Rattle.std.proofs.lemmas.List.{get_or-set_same, get_or-set_other, get_or-replicate, length-replicate}
+use Rattle.std.proofs.lemmas.List.{length_push}
 use Rattle.theory.specs.System.{System, IsSystem, Reachable}
 use Rattle.theory.specs.Bisimulation.{Bisimilar}
 use Rattle.theory.specs.declared.relation.Relation.{Relation}
 use Rattle.theory.specs.Blocks.{EachTwo}
 use Rattle.theory.specs.Quotient.{HowMany, Fellow, Leader, IsLeader, Number}
-use Rattle.quotient_core.specs.Numbers.{begins_class, TakesState}
+use Rattle.quotient_core.specs.Numbers.{TakesState}
 use Rattle.quotient_core.specs.declared.numbering.Numbers.{Numbers}
 use Rattle.quotient_core.specs.declared.numbering.TheConstants.{NONE}
 use Rattle.theory.proofs.CallerLemmas.{is_leader_itself}
@@ -26,40 +26,14 @@ at_push : (xs : List ℕ) (x t : ℕ) → t < length xs + 1 →
     ⊎ ((t ≡ length xs) × (slice_index (xs ++ x ∷ []) t ≡ x))
 at_push xs x t h = grind (arith, common_steps)
 
--- Suppose that the entry of a table at the index b is replaced by `count`, or that nothing is replaced. Then all other
--- entries of the table stay the same.
-at_put : (table : List ℕ) (b u count : ℕ) (puts : Bool) → b < length table →
-    ((slice_index (cond puts (set table b count) table) u ≡ slice_index table u) × (u ≡ b → puts ≡ false))
-    ⊎ ((puts ≡ true) × (u ≡ b) × (slice_index (cond puts (set table b count) table) u ≡ count))
-at_put table b u count true low =
-    grind (arith, cases_eq u b, get_or-set_same table b count 0, get_or-set_other table b u count 0)
-at_put table b u count false low = inl (refl, λ e. refl)
-
 module _ {b : ℕ} {reached : Bool} {old new : Numbers} (takes : TakesState b reached old new) where
-  -- When a state of the block b is given its class number (the quotient state that represents it), at most one class is
-  -- added to the list of classes. The block ID of the added class is b.
-  TakesState-classes : ((begins_class b reached old ≡ false) × (new.classes.items ≡ old.classes.items))
-      ⊎ ((begins_class b reached old ≡ true) × (new.classes.items ≡ old.classes.items ++ b ∷ []))
-  TakesState-classes = elim (cases_Bool (begins_class b reached old)) [
-    | inl e ↦ inr (e, rw e at takes.classes)
-    | inr e ↦ inl (e, rw (e, append-nil) at takes.classes)
-  ]
-
-  -- The table `by_block` has the class number of each block, which is the quotient state that represents the states of
-  -- the block. When a state is given its class number, this table keeps its length, and at most one class is added to
-  -- the list of classes.
-  pub TakesState-room : (length new.by_block.items ≡ length old.by_block.items)
-      × (length old.classes.items ≤ length new.classes.items)
-      × (length new.classes.items ≤ length old.classes.items + 1)
-  TakesState-room = grind (arith, nat_tests, length-set {A = ℕ}, length_push {X = ℕ}, takes, TakesState-classes)
-
   -- Suppose that a state has just been given its class number (the quotient state that represents it). Each class in
   -- the list of classes either was in this list before, or is the class of this state.
   pub class_at : (i : ℕ) → i < length new.classes.items → ((i < length old.classes.items)
       × (slice_index new.classes.items i ≡ slice_index old.classes.items i))
-      ⊎ ((begins_class b reached old ≡ true) × (i ≡ length old.classes.items) × (slice_index new.classes.items i ≡ b))
-  class_at i l =
-      grind (arith, TakesState-classes, at_push old.classes.items b i, length_push old.classes.items b)
+      ⊎ (IsTrue reached × (slice_index old.by_block.items b ≡ NONE) × (i ≡ length old.classes.items)
+      × (slice_index new.classes.items i ≡ b))
+  class_at i l = grind (arith, takes.classes, at_push old.classes.items b i, length_push old.classes.items b)
 
 -- `Other` holds if the state m is the leader of its class, which is the state that represents this class, if m is less
 -- than s, and if m is not the first state.
@@ -125,13 +99,12 @@ module _ (rel : Relation) (A : System) (block : ℕ → ℕ) (laws : Laws rel A 
 
     -- The following lemmas are about the case that s is the first reachable state of its block. In this case, its block
     -- gets the next class number, which is the next state of the quotient.
-    module _ (begins : begins_class (block s) reached old ≡ true) where
-      begun : Reachable A s × (number_at block old s ≡ NONE)
-      begun = let both = and_parts reached (eqb (number_at block old s) NONE) begins in
-          (is_reached.0 both.0, eqb-true (number_at block old s) NONE both.1)
+    module _ (marked : IsTrue reached) (none : number_at block old s ≡ NONE) where
+      way : Reachable A s
+      way = is_reached.0 marked
 
       apart : block A.first ≢ block s
-      apart e = absurd (omega (arith, h.first, ap (slice_index old.by_block.items) e, begun.1))
+      apart e = absurd (omega (arith, h.first, ap (slice_index old.by_block.items) e, none))
 
       other : s ≢ A.first
       other e = apart (ap block (sym e))
@@ -140,22 +113,21 @@ module _ (rel : Relation) (A : System) (block : ℕ → ℕ) (laws : Laws rel A 
       leads : Leader rel A s s
       leads =
           let least = λ (k : ℕ) (fellow : Fellow rel A s k).
-          let same = (share s k begun.0 fellow.0).1 fellow.1 in
+          let same = (share s k way fellow.0).1 fellow.1 in
           let seen = λ (l : k < s). (h.seen k l fellow.0).1 in
-          let low : s ≤ k = grind (arith, cases_lt k s, seen, ap (slice_index old.by_block.items) same, begun.1) in
+          let low : s ≤ k = grind (arith, cases_lt k s, seen, ap (slice_index old.by_block.items) same, none) in
           low in
-          let own = (share s s begun.0 begun.0).0 refl in
-          inr (λ b. apart (sym ((share s A.first begun.0 ([], refl)).1 b)), ((begun.0, own), least))
+          let own = (share s s way way).0 refl in
+          inr (λ b. apart (sym ((share s A.first way ([], refl)).1 b)), ((way, own), least))
 
     -- Suppose that the block of the state s already has a class number, which is the quotient state for this block.
     -- Then s is not the leader of its class (the state that represents this class), unless s is the first state of the
     -- system.
-    not_other : begins_class (block s) reached old ≡ false → ¬ (IsLeader rel A s × (s ≢ A.first))
+    not_other : (IsTrue reached → number_at block old s ≢ NONE) → ¬ (IsLeader rel A s × (s ≢ A.first))
     not_other joins (lead, other) =
         let own : Reachable A s × Leader rel A s s = is_leader_itself rel A laws.system s lead in
         let k = number_at block old s in
-        let had : (k < count) × ((u : ℕ) → Reachable A u → block u ≡ block s → Number rel A u k) = h.numbered s ls
-        (λ none. both_ways _ joins (and_from reached _ (is_reached.1 own.0) (eq-eqb _ _ none))) in
+        let had = h.numbered s ls (joins (is_reached.1 own.0)) in
         let mine : Number rel A s count = (s, own.1, inr (other, h.counted.0, h.counted.1, h.counted.2)) in
         let same : k ≡ count = (laws.classes s s k count own.0 own.0 (had.1 s own.0 refl) mine).1
         ((share s s own.0 own.0).0 refl) in
@@ -163,13 +135,13 @@ module _ (rel : Relation) (A : System) (block : ℕ → ℕ) (laws : Laws rel A 
 
     -- A class number is the quotient state for a class. When the state s gets its class number, the class number of its
     -- block may change from `NONE` to the next class number. The class numbers of all other blocks do not change.
-    at : (t : ℕ) → ((number_at block new t ≡ number_at block old t) × (block t ≡ block s →
-        begins_class (block s) reached old ≡ false)) ⊎ ((begins_class (block s) reached old ≡ true)
-        × (block t ≡ block s) × (number_at block old t ≡ NONE) × (number_at block new t ≡ count))
+    at : (t : ℕ) → ((number_at block new t ≡ number_at block old t) × (block t ≡ block s → IsTrue reached →
+        number_at block old t ≢ NONE)) ⊎ (IsTrue reached × (number_at block old s ≡ NONE) × (block t ≡ block s)
+        × (number_at block old t ≡ NONE) × (number_at block new t ≡ count))
     at t =
-        let put = at_put old.by_block.items (block s) (block t) count (begins_class (block s) reached old) within in
-        let none = λ (begins : begins_class (block s) reached old ≡ true). (begun begins).1 in
-        rw takes.by_block (grind (arith, nat_tests, put, none))
+        let same = get_or-set_same old.by_block.items (block s) count 0 within in
+        let other = get_or-set_other old.by_block.items (block s) (block t) count 0 in
+        grind (arith, takes.classes, cases_eq (block t) (block s), same, other)
 
     -- If the invariant of the loop (`Taken`) holds before the state s is given its class number (the quotient state
     -- that represents it), then the invariant also holds afterwards.
@@ -184,30 +156,30 @@ module _ (rel : Relation) (A : System) (block : ℕ → ℕ) (laws : Laws rel A 
           rw takes.numbers (grind (arith, nat_tests, put, h.numbers_long, before, at t, own, few, low, l));
       numbered = λ t l some. elim (at t) [
         | inl (is, _) ↦ let had = h.numbered t l (λ none. some (is ∙ none)) in
-            rw is (omega (arith, had.0, (TakesState-room takes).1), had.1)
-        | inr (begins, e, _, is) ↦ rw is (
-          omega (arith, ap length (rw begins at takes.classes), length_push old.classes.items (block s)),
-          λ u way to. number_shared s u count (begun begins).0 way (sym (to ∙ e))
-              (s, leads begins, inr (other begins, h.counted.0, h.counted.1, h.counted.2)),
+            rw is (grind (arith, had.0, takes.classes, length_push {X = ℕ}), had.1)
+        | inr (marked, none, e, _, is) ↦ rw is (
+          grind (arith, takes.classes, length_push old.classes.items (block s)),
+          λ u to_u to. number_shared s u count (way marked none) to_u (sym (to ∙ e))
+              (s, leads marked none, inr (other marked none, h.counted.0, h.counted.1, h.counted.2)),
         )
       ];
       classes = λ t i l below.
           let less = λ (some : number_at block old t ≢ NONE). (h.numbered t l some).0 in
           grind (arith, h.classes t i l, at t, class_at takes i below, less, few, low);
-      counted = elim (TakesState-classes takes) [
-        | inl (joins, e) ↦ (
+      counted = elim takes.classes [
+        | inl (marked, none, e, _) ↦ (
+          h.counted.0 + 1,
+          laws.one s h.counted.0 (s, way marked none, leads marked none) (other marked none) h.counted.1,
+          omega (arith, ap length e, length_push old.classes.items (block s), h.counted.2),
+        )
+        | inr (joins, e, _) ↦ (
           h.counted.0,
           laws.kept s h.counted.0 (not_other joins) h.counted.1,
           ap length e ∙ h.counted.2,
         )
-        | inr (begins, e) ↦ (
-          h.counted.0 + 1,
-          laws.one s h.counted.0 (s, (begun begins).0, leads begins) (other begins) h.counted.1,
-          omega (arith, ap length e, length_push old.classes.items (block s), h.counted.2),
-        )
       ];
       fewer = λ l.
-          grind (arith, TakesState-classes takes, length_push old.classes.items (block s), h.fewer, other, l);
+          grind (arith, takes.classes, length_push old.classes.items (block s), h.fewer, other, l);
     }
 
   -- A class number is the quotient state for a class. The invariant of the loop (`Taken`) holds before any state is
@@ -240,6 +212,7 @@ module _ (rel : Relation) (A : System) (block : ℕ → ℕ) (laws : Laws rel A 
       at t l =
           let blank = get_or-replicate count (block t) NONE 0 (within t l) in
           let room = within A.first laws.system.first in
-          let put = at_put (replicate count NONE) (block A.first) (block t) 0 true
+          let same = get_or-set_same (replicate count NONE) (block A.first) 0 0
           (omega (arith, room, length-replicate {A = ℕ})) in
-          rw by_block (grind (arith, put, blank, cases_eq (block t) (block A.first)))
+          let other = get_or-set_other (replicate count NONE) (block A.first) (block t) 0 0 in
+          rw by_block (grind (arith, cases_eq (block t) (block A.first), same, other, blank))

@@ -4,11 +4,11 @@
 -- transitions of all reachable states are exactly the transitions of the quotient. They also lead to the following
 -- theorem. If no transition of a state is left out, then each quotient transition of another state with the same class
 -- number is also a quotient transition of this state.
-use Rattle.std.proofs.Common.{rules, ◌≡◌, ◌≢◌, ◌∙◌, ◌↔◌, ℕ, ◌<◌, ◌≤◌, true, not, Option, None, Some, List, length, map}
-use Rattle.std.proofs.Common.{[], get_or, Contains, IsPermutation, refl, sym, ap, subst, arith}
+use Rattle.std.proofs.Common.{rules, ◌≡◌, ◌≢◌, ◌∙◌, ◌↔◌, ℕ, ◌<◌, ◌≤◌, true, not, Option, List, length, map, [], get_or}
+use Rattle.std.proofs.Common.{Contains, IsPermutation, refl, sym, ap, subst, arith}
 use Rattle.std.specs.List.{AllPairs}
-use Rattle.std.proofs.lemmas.Bool.{eq-eqb, both_ways, false_from_ne_true}
-use Rattle.std.proofs.lemmas.List.{length-map, get_or-map, get_or_default}
+use Rattle.std.proofs.lemmas.Bool.{both_ways, false_from_ne_true}
+use Rattle.std.proofs.lemmas.List.{length-map, get_or-map}
 use Rattle.std.proofs.lemmas.List.Elements.{All-contains, Contains-get_or}
 use Rattle.std.proofs.lemmas.List.Filters.{length-filter_both}
 use Rattle.std.proofs.lemmas.List.Sorted.{IsPermutation-map, IsPermutation-sym}
@@ -22,7 +22,7 @@ use Rattle.lts.specs.Lts.{Triple, source_of, label_of, target_of, row_of, transi
 use Rattle.lts.specs.Lts.{IsTriple, InRange, IsLts, Grouped, IsBuilt}
 use Rattle.quotient_core.specs.Numbers.{IsNumbering}
 use Rattle.quotient_core.specs.Triples.{Numbered, number_of, between_numbers, is_left_out, shown_by, is_reached}
-use Rattle.quotient_core.specs.Triples.{HasShown, IsDroppedLabel, ShowEachOther}
+use Rattle.quotient_core.specs.Triples.{HasShown, ShowEachOther}
 use Rattle.quotient_core.specs.declared.numbering.Numbering.{Numbering}
 use Rattle.theory.proofs.CallerLemmas.{leads_on, quotient_reordered}
 use Rattle.lts.proofs.CallerLemmas.{contains_mapped, mapped_contains, contains_passing}
@@ -42,15 +42,6 @@ transitions_differ labels es table within once i j d low high same =
     (within _ (Contains-get_or es j (0, 0, 0) lj)) (ap (λ t. t.label) e) in
     once i j (0, 0, 0) low lj (λ k. (ap (λ t. t.source) e k, label k, ap (λ t. t.target) e k))
 
--- The program leaves out a triple (`is_left_out`) if and only if the quotient modulo `rel` drops the transition that
--- the triple denotes (`IsDropped`).
-left_out_is : (rel : Relation) (labels : List (List ℕ)) (dropped : Option ℕ) → IsTable labels →
-    IsDroppedLabel rel labels dropped →
-    (x : Triple) → label_of x < length labels → (is_left_out dropped x ≡ true) ↔ IsDropped rel (transition_of labels x)
-left_out_is Strong labels dropped table none x low = search rules
-left_out_is Branching labels None table without x low = search (rules, get_or_default)
-left_out_is Branching labels (Some k) table number x low = search (rules, eq-eqb, table.different, number.below)
-
 -- Suppose that the source of the triple x equals its target if and only if the states s and t are bisimilar, and let a
 -- be the label of x. Then the quotient drops the transition that x denotes if and only if the step s -a-> t is inert.
 dropped_is : (rel : Relation) (A : System) (labels : List (List ℕ)) (x : Triple) (s t : ℕ) →
@@ -60,11 +51,13 @@ dropped_is Strong A labels x s t same = (λ gone. gone, λ gone. gone)
 dropped_is Branching A labels x s t same = (λ h. (h.0, same.0 h.1), λ h. (h.0, same.1 h.1))
 
 -- `IsNumbered` holds if each reachable state of the system g has its class number (the quotient state that represents
--- it), and `dropped` is the ID of the label that the quotient drops. The other fields are theorems of the crates
--- `theory` and `lts` about the system g.
+-- it). Moreover, the program must leave out a triple (`is_left_out`) if and only if the quotient modulo `rel` drops the
+-- transition that the triple denotes (`IsDropped`). The other fields are theorems of the crates `theory` and `lts`
+-- about the system g.
 pub record IsNumbered (rel : Relation) (g : Grouped) (n : Numbering) (dropped : Option ℕ) : Type 0 where
   pub numbering : IsNumbering rel (system_of g) n
-  pub drops : IsDroppedLabel rel g.labels dropped
+  pub drops : (x : Triple) → label_of x < length g.labels →
+      (is_left_out dropped x ≡ true) ↔ IsDropped rel (transition_of g.labels x)
   pub lts : IsLts g
   pub one_number : (s m n : ℕ) → Number rel (system_of g) s m → Number rel (system_of g) s n → m ≡ n
   pub classes : (s t m n : ℕ) → Reachable (system_of g) s → Reachable (system_of g) t →
@@ -85,9 +78,6 @@ module _ {rel : Relation} {g : Grouped} {n : Numbering} {dropped : Option ℕ} (
   abbrev A : System
   A = system_of g
 
-  abbrev count : ℕ
-  count = length n.classes.items
-
   -- Suppose that a transition is in the row of a state, which is the list of its transitions. Then the source and the
   -- target of the transition are states of the system, and its label ID is in the label table.
   in_range : (s : ℕ) (e : Triple) → Contains (row_of s g.places) e → IsTriple (length g.labels) g.states e
@@ -105,28 +95,26 @@ module _ {rel : Relation} {g : Grouped} {n : Numbering} {dropped : Option ℕ} (
     -- have exactly the quotient transitions of all reachable states. In each triple of `es`, the source and the target
     -- are less than the number of classes, and the label ID is in the label table. Each triple comes from a step of a
     -- reachable state, and the quotient does not drop it.
-    each_is : (x : Triple) → Contains es x → IsTriple (length g.labels) count x
+    each_is : (x : Triple) → Contains es x → IsTriple (length g.labels) (length n.classes.items) x
         × IsQuotientStep rel A (transition_of g.labels x) × ¬ IsDropped rel (transition_of g.labels x)
     each_is x c =
         let (s, m, d) = (shown.exactly x).0 c in
         let way = (is.numbering.reached s).0 m in
         let (e, in_row, from, stays) = place_of rows s x d in
         let on = way_on s e in_row way in
-        let out =
-        left_out_is rel g.labels dropped is.lts.table is.drops (between_numbers rows s e) (in_range s e in_row).label in
         let below = λ (t : ℕ) (w : Reachable A t). is.numbering.numbered.below t ((is.numbering.reached t).1 w) in
         let number = is.numbering.number in
         rw (← from) (
           record { source = below s way; label = (in_range s e in_row).label; target = below (target_of e) on },
           (s, target_of e, way, (is.steps s _ _).1 (e, in_row, refl, refl), number s way, number (target_of e) on),
-          λ gone. both_ways _ stays (out.1 gone),
+          λ gone. both_ways _ stays ((is.drops (between_numbers rows s e) (in_range s e in_row).label).1 gone),
         )
 
     -- If the source and the target of a transition are replaced by the quotient states that represent them, the result
     -- is a quotient transition of the original source, unless the quotient leaves the result out. Let the list `es`
     -- have exactly the quotient transitions of all reachable states. If the length of `es` is at most the number of
     -- transitions of the given system, then `es` satisfies the limits on the size of a system (`InRange`).
-    pub quotient_in_range : length es ≤ length g.places → InRange (length g.labels) 0 count es
+    pub quotient_in_range : length es ≤ length g.places → InRange (length g.labels) 0 (length n.classes.items) es
     quotient_in_range few = let some = is.numbering.numbered.below g.first
         ((is.numbering.reached g.first).1 ([], refl)) in record {
           first_below = omega (arith, some);
@@ -139,10 +127,10 @@ module _ {rel : Relation} {g : Grouped} {n : Numbering} {dropped : Option ℕ} (
     -- is a quotient transition of the original source, unless the quotient leaves the result out. Let the list `es`
     -- have exactly the quotient transitions of all reachable states. Then the system that is built from `es` is the
     -- quotient.
-    pub built : (q : Grouped) → IsBuilt 0 count g.labels es q → Quotient rel A (system_of q)
+    pub built : (q : Grouped) → IsBuilt 0 (length n.classes.items) g.labels es q → Quotient rel A (system_of q)
     built q made =
         let moved = IsPermutation-sym _ _ (IsPermutation-map (transition_of g.labels) es q.places made.grouping.same) in
-        let quotient : Quotient rel A (system_from 0 count g.labels es) = record {
+        let quotient : Quotient rel A (system_from 0 (length n.classes.items) g.labels es) = record {
           states = is.numbering.counted;
           first = refl;
           transitions = λ e. (
@@ -158,18 +146,16 @@ module _ {rel : Relation} {g : Grouped} {n : Numbering} {dropped : Option ℕ} (
                 ap (number_of rows) to ∙ is.one_number t _ _ (is.numbering.number t on) ht in
                 let same : transition_of g.labels (between_numbers rows s f) ≡ e =
                 λ i. record { source = source i; label = label i; target = target i } in
-                let out = left_out_is rel g.labels dropped is.lts.table is.drops (between_numbers rows s f)
-                (in_range s f in_row).label in
-                let place = shown_place rows s f in_row (false_from_ne_true _
-                (λ gone. stays (subst (IsDropped rel) same (out.0 gone)))) in
+                let place = shown_place rows s f in_row (false_from_ne_true _ (λ gone. stays (subst (IsDropped rel) same
+                ((is.drops (between_numbers rows s f) (in_range s f in_row).label).0 gone)))) in
                 subst (Contains (map (transition_of g.labels) es)) same (contains_mapped (transition_of g.labels) es _
                 ((shown.exactly (between_numbers rows s f)).1 (s, (is.numbering.reached s).1 way, place))),
           );
           once = transitions_differ g.labels es is.lts.table (λ x c. (each_is x c).0.label) once;
         } in
-        quotient_reordered rel A (system_from 0 count g.labels es) (system_of q) made.first made.states
-        (subst (λ t. IsPermutation (map (transition_of t) q.places) (map (transition_of g.labels) es)) (sym made.labels)
-        moved) quotient
+        quotient_reordered rel A (system_from 0 (length n.classes.items) g.labels es) (system_of q) made.first
+        made.states (subst (λ t. IsPermutation (map (transition_of t) q.places) (map (transition_of g.labels) es))
+        (sym made.labels) moved) quotient
 
   -- Two reachable states have the same class number, which is the quotient state that represents them, if and only if
   -- they are bisimilar.
@@ -182,8 +168,7 @@ module _ {rel : Relation} {g : Grouped} {n : Numbering} {dropped : Option ℕ} (
       (text_of g.labels (label_of e)) (target_of e)
   inert_is s e way c = let inert = dropped_is rel A g.labels (between_numbers rows s e) s (target_of e)
       (same_is s (target_of e) way (way_on s e c way)) in
-      let x = between_numbers rows s e in
-      let out = left_out_is rel g.labels dropped is.lts.table is.drops x (in_range s e c).label in
+      let out = is.drops (between_numbers rows s e) (in_range s e c).label in
       (λ gone. inert.0 (out.0 gone), λ nothing. out.1 (inert.1 nothing))
 
   -- If the source and the target of a transition are replaced by the quotient states that represent them, the result is

@@ -1,21 +1,20 @@
 -- These lemmas are about the search for the reachable states. When the search marks a state or reads the transitions of
 -- a state, the set of marked states changes. The set of transitions that are still to be read changes too.
 use Rattle.std.proofs.lemmas.List.{get_or_default, get_or-set_same, get_or-set_other, length-replicate, get_or_past}
-use Rattle.std.proofs.lemmas.List.{length_push, length-set, append-nil}
-use Rattle.std.proofs.Common.{◌≢◌, sum_by, ap, ◌≡◌, ◌⊎◌, ℕ, ◌+◌, ◌<◌, ◌≤◌, Bool, true, false, cond, not, ◌&&◌, eqb}
-use Rattle.std.proofs.Common.{ltb, List, [], ◌∷◌, ◌++◌, length, get_or, set, replicate, Contains, inl, inr, arith}
-use Rattle.std.proofs.Common.{rules}
+use Rattle.std.proofs.lemmas.List.{length-set, append-nil}
+use Rattle.std.proofs.Common.{◌≢◌, sum_by, ap, ◌≡◌, ◌⊎◌, ℕ, ◌+◌, ◌<◌, Bool, true, false, cond, not, ◌&&◌, eqb, ltb}
+use Rattle.std.proofs.Common.{List, [], ◌∷◌, ◌++◌, length, get_or, set, replicate, Contains, inl, inr, arith, rules}
 use Rattle.std.proofs.lemmas.Grind.{common_steps}
 use Rattle.std.proofs.lemmas.Bool.Decides.{nat_tests}
 use Rattle.std.proofs.lemmas.Bool.{cases_eq, cases_Bool, both_ways}
 use Rattle.std.proofs.lemmas.List.Elements.{Contains-append_cases, Contains-append_left, Contains-append_right}
-use Rattle.std.proofs.lemmas.List.Sums.{sum_by_push, sum_by-set}
+use Rattle.std.proofs.lemmas.List.Sums.{sum_by_push}
 use Rattle.theory.specs.System.{Step, Reachable}
 use Rattle.theory.proofs.CallerLemmas.{contains_here, contains_there, contains_cases, contains_none}
 use Rattle.lts.specs.Lts.{Triple, row_of, Grouped, system_of}
 use Rattle.lts.specs.Meter.{Counts, Costs}
 use Rattle.quotient_core.specs.Numbers.{IsMarked}
-use Rattle.quotient_core.specs.Search.{MarksState, Searches, ReadsOnce, is_ahead, states_ahead, places_ahead}
+use Rattle.quotient_core.specs.Search.{MarksState, Searches, ReadsOnce, is_ahead, places_ahead}
 use Rattle.quotient_core.specs.Triples.{rows_of}
 use Rattle.quotient_core.specs.declared.search.Search.{Search}
 use Rattle.quotient_core.proofs.Visits.{visits_then, rows_part, rows_few}
@@ -97,12 +96,6 @@ module _ {t next : ℕ} {old new : Search} (marks : MarksState t next old new) (
         rw (marks.queue, w, append-nil)
         (ap (λ p. length (rows_of p places) + sum_by row old.queue.items) (λ i u. same u i))
   ]
-
-  -- When the state t is marked, the number of states that are not marked, plus the length of the queue, does not
-  -- increase.
-  pub states_ahead-marks : states_ahead new ≤ states_ahead old
-  states_ahead-marks = let sum = sum_by-set (λ b. cond (not b) 1 0) old.marked.items t true false l in
-      rw (marks.marked, marks.queue) (grind (arith, nat_tests, append-nil {A = ℕ}, length_push {X = ℕ}, sum))
 
 -- The following lemmas assume that the search has read each transition at most once, and that the meter has counted
 -- these reads (`ReadsOnce`).

@@ -5,7 +5,7 @@
 -- transitions of a class.
 use Rattle.std.proofs.Common.{◌-◌, get_or, ◌≡◌, ◌≢◌, ◌⊎◌, ℕ, ◌+◌, ◌<◌, ◌≤◌, Bool, false, not, ◌&&◌, IsTrue, eqb, ltb}
 use Rattle.std.proofs.Common.{List, [], ◌++◌, length, slice_index, Contains, IsPermutation, ap, subst, inl, inr, arith}
-use Rattle.std.proofs.Common.{map, rules, nat_eq}
+use Rattle.std.proofs.Common.{map, rules, nat_eq, cond}
 use Rattle.std.specs.List.{AllPairs, dedup}
 use Rattle.std.proofs.lemmas.Cmp.{on_total, then_total, nat_cmp_total}
 use Rattle.std.proofs.lemmas.List.Filters.{dedup_is}
@@ -27,7 +27,7 @@ use Rattle.lts.specs.Meter.{Counts, Costs}
 use Rattle.partition.specs.Blocks.{AreStatesOf}
 use Rattle.quotient_core.specs.Numbers.{AreNumbered}
 use Rattle.quotient_core.specs.Triples.{Numbered, number_of, shown_by, is_reached, is_member, ShowEachOther, rows_of}
-use Rattle.quotient_core.specs.Triples.{turn_of, LeavesNothingOut, HasShown, between_numbers, is_left_out}
+use Rattle.quotient_core.specs.Triples.{HasShown, between_numbers, is_left_out}
 use Rattle.std.proofs.lemmas.Grind.{elements}
 use Rattle.quotient_core.proofs.Reaching.{marked_below}
 use Rattle.lts.proofs.CallerLemmas.{contains_mapped, mapped_contains, contains_passing, passing_contains}
@@ -169,7 +169,8 @@ once_next rows n xs ys h g one other i j d low high =
 -- `was_read` is true if the state s is a member of the class n, and is among the first k states that the loop of
 -- `read_class` takes from the block of this class.
 abbrev pub was_read : Numbered → ℕ → List ℕ → (ℕ → ℕ) → ℕ → ℕ → Bool
-was_read rows n members at k s = is_member rows n s && ltb (turn_of (length members) (at s)) k
+was_read rows n members at k s =
+    is_member rows n s && ltb (cond (eqb (at s + 1) (length members)) 0 (at s + 1)) k
 
 -- `IsReadTo` holds if the loop of `read_class` has taken the first k states from the block of the class n. The list
 -- `class` must have exactly the quotient transitions (transitions between quotient states) of the reachable states
@@ -198,7 +199,7 @@ module _ {rows : Numbered} {n : ℕ} {members : List ℕ} {k : ℕ} {class : Lis
   -- that were read so far have at most as many transitions as all members of the class. When all members have been
   -- read, the list `class` has exactly the quotient transitions (transitions between quotient states) of the class.
   pub read_few : (i : ℕ) → length (rows_of (read i) rows.l.places) ≤ length (rows_of (is_member rows n) rows.l.places)
-  read_few i = let rest = λ (s : ℕ). is_member rows n s && not (ltb (turn_of (length members) (h.are.at s)) i) in
+  read_few i = let rest = λ (s : ℕ). is_member rows n s && not (read i s) in
       omega (arith, rows_part (is_member rows n) (read i) rest (λ s. grind (arith, nat_tests)) rows.l.places)
 
   pub read_all : length members ≤ k → HasShown rows (is_member rows n) class
@@ -208,7 +209,7 @@ module _ {rows : Numbered} {n : ℕ} {members : List ℕ} {k : ℕ} {class : Lis
 
   -- The loop of `read_class` takes the states of a block one after the other. In the following lemmas, k states have
   -- been taken so far, and `next` is the state that the loop takes next.
-  module _ {j : ℕ} (within : j < length members) (turn : turn_of (length members) j ≡ k) where
+  module _ {j : ℕ} (within : j < length members) (turn : cond (eqb (j + 1) (length members)) 0 (j + 1) ≡ k) where
     abbrev next : ℕ
     next = slice_index members j
 
@@ -256,7 +257,8 @@ module _ {rows : Numbered} {n : ℕ} {members : List ℕ} {k : ℕ} {class : Lis
           -- The quotient leaves out inert transitions. If no transition of the state `next` is left out, then the
           -- quotient transitions (transitions between quotient states) of the members that have been read, including
           -- `next`, are all quotient transitions of the class.
-          pub read_enough : ShowEachOther rows → LeavesNothingOut rows next → HasShown rows (is_member rows n) more
+          pub read_enough : ShowEachOther rows → length (shown_by rows next) ≡ length (row_of next rows.l.places) →
+              HasShown rows (is_member rows n) more
           read_enough also whole = record {
             exactly = λ x. (
               λ c. let f = (shown_next.exactly x).0 c in (f.0, grind (arith, f.1), f.2),

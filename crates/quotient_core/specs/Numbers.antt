@@ -1,9 +1,8 @@
 -- The class number of a reachable state is the quotient state that represents it. This file defines the class numbers
 -- of all reachable states. One pass over the states in ascending order gives each state its class number. Other crates
 -- use `IsMarked`, `AreClasses` and `IsNumbering`.
-use Rattle.std.specs.Prelude.{◌≡◌, ◌↔◌, ℕ, ◌<◌, ◌≤◌, ◌==◌, ◌&&◌, Bool, false, cond, IsTrue, [], ◌∷◌, ◌++◌, List, length}
-use Rattle.std.specs.Prelude.{slice_index, slice_set}
-use Rattle.std.specs.List.{slice_index_or}
+use Rattle.std.specs.Prelude.{◌≡◌, ◌≢◌, ◌⊎◌, ◌↔◌, ℕ, ◌<◌, ◌≤◌, Bool, false, IsTrue, [], ◌∷◌, ◌++◌, List, length}
+use Rattle.std.specs.List.{slice_index, slice_index_or, slice_set}
 use Rattle.theory.specs.System.{System, Reachable}
 use Rattle.theory.specs.Bisimulation.{Bisimilar}
 use Rattle.theory.specs.declared.relation.Relation.{Relation}
@@ -22,9 +21,8 @@ IsMarked marked s = IsTrue (slice_index_or marked s false)
 -- `AreClasses` holds if the blocks are the classes of bisimilar states: two states are in the same block if and only if
 -- they are bisimilar.
 abbrev pub AreClasses : Relation → Grouped → List ℕ → Type 0
-AreClasses rel g blocks =
-    EachTwo (system_of g) (λ s t. (slice_index blocks s ≡ slice_index blocks t) ↔ Bisimilar rel (system_of g) s
-    (system_of g) t)
+AreClasses rel g blocks = let A = system_of g in
+    EachTwo A (λ s t. (slice_index blocks s ≡ slice_index blocks t) ↔ Bisimilar rel A s A t)
 
 -- `AreNumbered` holds if the lists in n fit together. Each state must have a block ID, a mark and a class number, where
 -- `states` is the number of states. The mark of a state says whether the state is reachable. The class number of a
@@ -52,17 +50,14 @@ pub record IsNumbering (rel : Relation) (A : System) (n : Numbering) : Type 0 wh
   pub counted : HowMany (IsLeader rel A) (length n.classes.items)
   pub few : length n.classes.items ≤ A.states
 
--- `begins_class` is true if the next state is the first reachable state of its block b: the state is reachable, and the
--- block has no class number (no quotient state for the block) yet.
-abbrev pub begins_class : ℕ → Bool → Numbers → Bool
-begins_class b reached old = reached && (slice_index old.by_block.items b == NONE)
-
 -- `TakesState` holds if the loop has given a class number to the next state, which is in the block b. The class number
 -- of a state is the quotient state that represents it. The class numbers are `old` before this step of the loop, and
--- `new` after it. If the state is the first reachable state of its block, the block gets the next class number. The
--- state gets the class number that the table `by_block` then has for the block.
+-- `new` after it. If the state is the first reachable state of its block, the block gets the next class number. In any
+-- case, the state gets the class number that the table `by_block` then has for the block.
 pub record TakesState (b : ℕ) (reached : Bool) (old new : Numbers) : Type 0 where
-  pub by_block : new.by_block.items ≡ cond (begins_class b reached old)
-      (slice_set old.by_block.items b (length old.classes.items)) old.by_block.items
   pub numbers : new.numbers.items ≡ old.numbers.items ++ slice_index new.by_block.items b ∷ []
-  pub classes : new.classes.items ≡ old.classes.items ++ cond (begins_class b reached old) (b ∷ []) []
+  pub classes :
+      (IsTrue reached × (slice_index old.by_block.items b ≡ NONE) × (new.classes.items ≡ old.classes.items ++ b ∷ [])
+      × (new.by_block.items ≡ slice_set old.by_block.items b (length old.classes.items)))
+      ⊎ ((IsTrue reached → slice_index old.by_block.items b ≢ NONE) × (new.classes.items ≡ old.classes.items)
+      × (new.by_block.items ≡ old.by_block.items))

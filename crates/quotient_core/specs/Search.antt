@@ -4,7 +4,7 @@
 -- definitions below, the scan has already passed all states that are less than `next`.
 use Rattle.std.specs.Prelude.{◌≡◌, ◌⊎◌, ℕ, ◌+◌, ◌-◌, ◌<◌, ◌≤◌, Bool, true, false, not, cond, ◌&&◌, nat_lt, List, []}
 use Rattle.std.specs.Prelude.{◌∷◌, ◌++◌, length, slice_set}
-use Rattle.std.specs.List.{Contains, slice_index_or, filter, sum_by, count_by}
+use Rattle.std.specs.List.{Contains, slice_index_or, filter, sum_by}
 use Rattle.theory.specs.System.{Step, Reachable}
 use Rattle.lts.specs.Lts.{Triple, source_of, row_of, Grouped, system_of}
 use Rattle.lts.specs.Meter.{Counts, Costs}
@@ -34,10 +34,6 @@ pub record Searches (g : Grouped) (marked : List Bool) (next : ℕ) (waiting : L
   pub each_waiting : (s : ℕ) → Contains waiting s → IsMarked marked s
   pub followed : (s t : ℕ) (a : List ℕ) → s < next → IsMarked marked s → Step (system_of g) s a t →
       Contains waiting s ⊎ IsMarked marked t
-
--- `states_ahead` is the number of states that are not marked, plus the length of the queue.
-abbrev pub states_ahead : Search → ℕ
-states_ahead s = count_by not s.marked.items + length s.queue.items
 
 -- `places_ahead` is the number of transitions that the search may still read. These transitions are the transitions of
 -- the states for which `is_ahead` is true, and the transitions of the states in the queue.

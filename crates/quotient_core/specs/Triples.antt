@@ -1,22 +1,11 @@
 -- Private. Defines the transitions of the quotient as triples (source, label ID, target). The source and the target are
 -- class numbers, which are the quotient states that represent reachable states. These triples are called quotient
 -- transitions below. The row of a state is the list of its transitions.
-use Rattle.std.specs.Prelude.{◌≡◌, ◌↔◌, ℕ, ◌+◌, ◌≤◌, ◌==◌, ◌&&◌, Bool, false, not, cond, IsTrue, Option, None, Some}
-use Rattle.std.specs.Prelude.{List, length, map, slice_index, MatchOption}
+use Rattle.std.specs.Prelude.{◌≡◌, ◌↔◌, ℕ, ◌≤◌, ◌==◌, ◌&&◌, Bool, false, not, IsTrue, Option, None, Some, List, length}
+use Rattle.std.specs.Prelude.{map, slice_index}
 use Rattle.std.specs.List.{Contains, filter, slice_index_or}
-use Rattle.theory.specs.System.{internal}
-use Rattle.theory.specs.declared.relation.Relation.{Relation}
-use Rattle.theory.specs.declared.relation.Relation.TheVariants.{Strong, Branching}
-use Rattle.lts.specs.Labels.{IsLabelId}
 use Rattle.lts.specs.Lts.{Triple, Grouped, source_of, label_of, target_of, row_of}
 use Rattle.quotient_core.specs.declared.numbering.Numbering.{Numbering}
-
--- `IsDroppedLabel` holds if `dropped` is the ID of the label that the quotient drops. For branching bisimilarity, this
--- label is the internal label, if the label table has it. For strong bisimilarity, the quotient drops no label.
-abbrev pub IsDroppedLabel : Relation → List (List ℕ) → Option ℕ → Type 0
-IsDroppedLabel Strong labels dropped = dropped ≡ None
-IsDroppedLabel Branching labels dropped =
-    MatchOption dropped (¬ Contains labels internal) (λ k. IsLabelId labels k internal)
 
 -- `Numbered` is a system with the class numbers of its reachable states, which are the quotient states that represent
 -- them. If there is a label ID `dropped`, the quotient leaves out the transitions that have this label and lead from a
@@ -41,21 +30,12 @@ abbrev pub is_left_out : Option ℕ → Triple → Bool
 is_left_out None x = false
 is_left_out (Some k) x = (label_of x == k) && (source_of x == target_of x)
 
--- `shown_in` lists the quotient transitions (transitions between quotient states) that come from `row`, which is a part
--- of the row of the state s. Each transition in `row` gives one triple, in which the source and the target are replaced
--- by the quotient states that represent them. Triples for which `is_left_out` is true are removed.
-abbrev pub shown_in : Numbered → ℕ → List Triple → List Triple
-shown_in rows s row = filter (λ x. not (is_left_out rows.dropped x)) (map (between_numbers rows s) row)
-
 -- `shown_by` lists the quotient transitions (transitions between quotient states) that come from the transitions of the
--- state s.
+-- state s. Each transition of s gives one triple, in which the source and the target are replaced by the quotient
+-- states that represent them. Triples for which `is_left_out` is true are removed.
 abbrev pub shown_by : Numbered → ℕ → List Triple
-shown_by rows s = shown_in rows s (row_of s rows.l.places)
-
--- `LeavesNothingOut` holds if each transition of the state s gives a quotient transition (a transition between quotient
--- states). The definition says that the number of quotient transitions of s equals the number of transitions of s.
-abbrev pub LeavesNothingOut : Numbered → ℕ → Type 0
-LeavesNothingOut rows s = length (shown_by rows s) ≡ length (row_of s rows.l.places)
+shown_by rows s =
+    filter (λ x. not (is_left_out rows.dropped x)) (map (between_numbers rows s) (row_of s rows.l.places))
 
 -- `is_reached` is true if the state s is reachable.
 abbrev pub is_reached : Numbered → ℕ → Bool
@@ -67,18 +47,13 @@ abbrev pub is_member : Numbered → ℕ → ℕ → Bool
 is_member rows i s = is_reached rows s && (number_of rows s == i)
 
 -- `ShowEachOther` holds if the following is true for any two reachable states s and t that the same quotient state
--- represents. If each transition of s gives a quotient transition (a transition between quotient states), then each
--- quotient transition of t is also a quotient transition of s.
+-- represents. If s has as many quotient transitions (transitions between quotient states) as transitions, so that none
+-- is left out, then each quotient transition of t is also a quotient transition of s.
 abbrev pub ShowEachOther : Numbered → Type 0
 ShowEachOther rows =
     (s t : ℕ) → IsTrue (is_reached rows s) → IsTrue (is_reached rows t) → number_of rows s ≡ number_of rows t →
-    LeavesNothingOut rows s → (x : Triple) → Contains (shown_by rows t) x → Contains (shown_by rows s) x
-
--- `turn_of` is the position of a state in the order in which the states of its block are read. The states of the block
--- are in a list, which has `members` states, and the state is at the index i of this list. The last state of the list
--- is read first, and the other states follow in ascending order.
-abbrev pub turn_of : ℕ → ℕ → ℕ
-turn_of members i = cond (i + 1 == members) 0 (i + 1)
+    length (shown_by rows s) ≡ length (row_of s rows.l.places) →
+    (x : Triple) → Contains (shown_by rows t) x → Contains (shown_by rows s) x
 
 -- `rows_of` lists the transitions whose source satisfies the predicate `of`.
 abbrev pub rows_of : (ℕ → Bool) → List Triple → List Triple

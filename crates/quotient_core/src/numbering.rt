@@ -53,19 +53,17 @@ pub fn number<M: Meter>(
     ensures { (rel : Relation) → AreClasses rel l.now blocks.block_ids →
         IfOk result (IsNumbering rel (system_of l.now)) }
 {
-    theory::steps_keep_reachable();
     theory::each_state_has_a_number();
     theory::numbers_are_classes();
     theory::leaders_are_counted();
     let states = l.states();
     let first = blocks.block_ids()[l.first() as usize];
-    let mut by_block = vec![in alloc; NONE; blocks.count() as usize]?;
-    by_block[first as usize] = 0;
     let mut taken = Numbers {
-        by_block,
+        by_block: vec![in alloc; NONE; blocks.count() as usize]?,
         numbers: Vec::with_capacity(alloc, states as usize)?,
         classes: vec![in alloc; first]?,
     };
+    taken.by_block[first as usize] = 0;
     for s in 0..states {
         taken.add(blocks.block_ids()[s as usize], reached[s as usize])?;
     }

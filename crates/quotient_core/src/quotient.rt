@@ -1,11 +1,11 @@
 //! Builds the quotient of a system from the class numbers of its states. The class number of a state is the quotient
 //! state that represents it.
-ghost use Rattle.std.specs.Prelude.{◌≡◌, ◌≤◌, length, IfOk};
-ghost use Rattle.theory.specs.Quotient.{Quotient};
+ghost use Rattle.std.specs.Prelude.{◌≡◌, ◌↔◌, ◌<◌, ◌≤◌, true, length, IfOk};
+ghost use Rattle.theory.specs.Quotient.{IsDropped, Quotient};
 ghost use Rattle.lts.specs.Meter.{HasRoomFor, Costs};
-ghost use Rattle.lts.specs.Lts.{system_of};
+ghost use Rattle.lts.specs.Lts.{Triple, label_of, transition_of, system_of};
 ghost use Rattle.quotient_core.specs.Numbers.{IsNumbering};
-ghost use Rattle.quotient_core.specs.Triples.{IsDroppedLabel};
+ghost use Rattle.quotient_core.specs.Triples.{is_left_out};
 
 use crate::numbered_rows::NumberedRows;
 use crate::numbering::Numbering;
@@ -43,8 +43,10 @@ pub fn quotient_of<M: Meter>(
 /// lead from a class to itself. For branching bisimilarity, the label is the internal label, if the system has this
 /// label. For strong bisimilarity, the quotient drops no label.
 fn dropped(r: Relation, labels: &Labels) -> Option<u32>
-    ensures { IsDroppedLabel r labels.now result }
+    ensures { (x : Triple) → label_of x < length labels.now →
+        (is_left_out result x ≡ true) ↔ IsDropped r (transition_of labels.now x) }
 {
+    labels.invariants();
     match r {
         Relation::Strong => None,
         Relation::Branching => labels.internal(),

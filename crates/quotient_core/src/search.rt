@@ -7,7 +7,7 @@ ghost use Rattle.theory.specs.System.{Reachable};
 ghost use Rattle.lts.specs.Meter.{HasRoomFor, Costs};
 ghost use Rattle.lts.specs.Lts.{row_of, system_of};
 ghost use Rattle.quotient_core.specs.Numbers.{IsMarked};
-ghost use Rattle.quotient_core.specs.Search.{MarksState, Searches, ReadsOnce, states_ahead, places_ahead};
+ghost use Rattle.quotient_core.specs.Search.{MarksState, Searches, ReadsOnce, places_ahead};
 
 use lts::{Lts, Memory, Meter};
 use std::alloc::Global;
@@ -96,7 +96,8 @@ impl Search {
         requires room { HasRoomFor (M.counted m.old) 0 (length (row_of s l.now.places)) }
         ensures search { OnOk result
             (Searches l.now self.new.marked.items next self.new.queue.items) }
-        ensures states { OnOk result (states_ahead self.new ≤ states_ahead self.old) }
+        ensures queue { OnOk result (length self.new.queue.items
+            ≤ length self.old.queue.items + length (row_of s l.now.places)) }
         ensures places { let ahead = λ (s : Search). places_ahead l.now.places next s.marked.items
             s.queue.items in
             OnOk result (ahead self.new ≡ ahead self.old) }

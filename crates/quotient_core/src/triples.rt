@@ -1,12 +1,11 @@
 //! Lists the transitions of the quotient as triples (source, label ID, target). The source and the target are class
 //! numbers, which are the quotient states that represent reachable states. These triples are called quotient
 //! transitions below.
-ghost use Rattle.std.specs.Prelude.{◌≡◌, ◌≢◌, ◌↔◌, ℕ, ◌+◌, ◌<◌, ◌≤◌, ◌++◌, IsTrue, length, IfOk, OnOk};
+ghost use Rattle.std.specs.Prelude.{◌≡◌, ◌≢◌, ◌↔◌, ℕ, ◌+◌, ◌<◌, ◌≤◌, ◌==◌, ◌++◌, cond, IsTrue, length, IfOk, OnOk};
 ghost use Rattle.std.specs.List.{AllPairs};
 ghost use Rattle.lts.specs.Meter.{HasRoomFor, Costs};
 ghost use Rattle.lts.specs.Lts.{row_of};
-ghost use Rattle.quotient_core.specs.Triples.{shown_by, rows_of, is_reached, is_member, turn_of, LeavesNothingOut};
-ghost use Rattle.quotient_core.specs.Triples.{ShowEachOther, HasShown};
+ghost use Rattle.quotient_core.specs.Triples.{shown_by, rows_of, is_reached, is_member, ShowEachOther, HasShown};
 
 use crate::numbered_rows::NumberedRows;
 use lts::{Memory, Meter, Transitions};
@@ -93,7 +92,7 @@ fn read_class<M: Meter>(
 fn last_first(k: usize, members: usize) -> usize
     requires { k < members }
     ensures below { result < members }
-    ensures turn { turn_of members result ≡ k }
+    ensures turn { cond (result + 1 == members) 0 (result + 1) ≡ k }
 {
     if k == 0 { members - 1 } else { k - 1 }
 }
@@ -109,7 +108,8 @@ fn read_row<M: Meter>(
     requires state { s < rows.now.l.states }
     requires room { HasRoomFor (M.counted m.old) 0 (length (row_of s rows.now.l.places)) }
     ensures class { OnOk result (class.new.items ≡ class.old.items ++ shown_by rows.now s) }
-    ensures whole { IfOk result (λ whole. IsTrue whole ↔ LeavesNothingOut rows.now s) }
+    ensures whole { IfOk result (λ whole. IsTrue whole
+        ↔ (length (shown_by rows.now s) ≡ length (row_of s rows.now.l.places))) }
     ensures visits { Costs (M.counted m.old) (M.counted m.new) 0 0
         (length (row_of s rows.now.l.places)) }
 {

@@ -74,8 +74,8 @@ module _ (places : List Triple) where
   rows_all xs i once long some = rw (take_all i xs long) (get_or-le-sum_by row_length xs 0 0 some, rows_few xs once)
 
 -- In the list of all transitions, the transitions of the found state at the index i begin at the place (index) `start`.
--- `ReadsRow` holds while the search reads these transitions. The data of the search was `first` before it read them, and
--- is f now. The search has explored the transitions from the place `start` up to but excluding the place k.
+-- `ReadsRow` holds while the search reads these transitions. The data of the search was `first` before it read them,
+-- and is f now. The search has explored the transitions from the place `start` up to but excluding the place k.
 pub record ReadsRow (u : Under) (s : ℕ) (first : FoundStates) (i start k : ℕ) (f : FoundStates) : Type 0 where
   pub on : Continues u s first f i
   pub taken : (j : ℕ) → j < k → start ≤ j → IsExplored u s f (place_at u.l.places j)

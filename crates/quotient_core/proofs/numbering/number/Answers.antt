@@ -1,17 +1,18 @@
 use Rattle.std.proofs.Common.{rules, ◌≡◌, ◌∙◌, ℕ, ◌<◌, ◌↔◌, false, IsTrue, [], ◌∷◌, length, slice_index, set, replicate}
 use Rattle.std.proofs.Common.{sym, subst, ap, refl, arith}
-use Rattle.std.proofs.lemmas.List.{get_or_read, length-set, length-replicate}
+use Rattle.std.proofs.lemmas.List.{get_or_read, length-set, length-replicate, length_push}
 use Rattle.theory.specs.System.{Reachable}
 use Rattle.theory.specs.declared.relation.Relation.{Relation}
 use Rattle.lts.specs.Lts.{system_of}
 use Rattle.quotient_core.specs.Numbers.{AreClasses}
 use Rattle.quotient_core.specs.declared.numbering.TheConstants.{NONE}
-use Rattle.quotient_core.proofs.Classes.{Laws, Taken-start, Taken-adds, TakesState-room, class_at}
+use Rattle.quotient_core.proofs.Reaching.{marked_below}
+use Rattle.quotient_core.proofs.Classes.{Laws, Taken-start, Taken-adds, class_at}
 use Rattle.quotient_core.proofs.numbering.number.Given.{Over}
 use Rattle.quotient_core.proofs.numbering.number.Goals as goal
-use Rattle.quotient_core.proofs.numbering.number.Goals.{In_ok-vec}
+use Rattle.quotient_core.proofs.numbering.number.Goals.{In_ok-vec-2}
 
-module _ (g : Over) (c : In_ok-vec g) where
+module _ (g : Over) (c : In_ok-vec-2 g) where
   -- The system and its blocks satisfy the assumptions of the proofs (`Laws`).
   laws : (rel : Relation) → AreClasses rel c.args.l.now c.args.blocks.block_ids →
       Laws rel (system_of c.args.l.now) (slice_index c.args.blocks.block_ids)
@@ -21,7 +22,8 @@ module _ (g : Over) (c : In_ok-vec g) where
       record {
         same = classes;
         system = sys;
-        below = λ s. c.steps_keep_reachable.ensures.below A s sys;
+        below = λ s way. marked_below A.states c.args.reached.items s c.requires.reached_long
+            ((c.requires.reached s).1 way);
         number = λ s. c.each_state_has_a_number.ensures.number rel A s sys;
         classes = λ s t m n. c.numbers_are_classes.ensures rel A s t m n sys;
         none = counted.none rel A;
@@ -34,7 +36,7 @@ module _ (g : Over) (c : In_ok-vec g) where
   of_first : slice_index c.block_ids.result.now c.first.result ≡ slice_index c.args.blocks.block_ids c.args.l.now.first
   of_first = rw (c.block_ids.ensures.block_ids, c.first.ensures) refl
 
-  set_first : set c.in_ok-by_block.by_block.items (slice_index c.block_ids.result.now c.first.result) 0
+  set_first : set c.in_ok-vec.field-0.items (slice_index c.block_ids.result.now c.first.result) 0
       ≡ set (replicate c.count.result NONE) (slice_index c.args.blocks.block_ids c.args.l.now.first) 0
   set_first = search rules
 
@@ -42,20 +44,21 @@ module _ (g : Over) (c : In_ok-vec g) where
   below t l = c.block_ids.ensures.blocks.below t (omega (arith, l, c.requires.blocks_long))
 
 pub loop-s-init : goal.loop-s-init
-loop-s-init g c = let one = c.in_ok-vec.ensures.items in
+loop-s-init g c = let at = (goal.at.loop-s-init g c).In_ok-vec-2 in
+    let one = c.in_ok-vec-2.ensures.items in
     record {
-      room = rw (set_first g c) (omega (arith, length-set {A = ℕ}, length-replicate {A = ℕ}, c.count.ensures));
+      room = rw (set_first g at) (omega (arith, length-set {A = ℕ}, length-replicate {A = ℕ}, c.count.ensures));
       few = omega (arith, ap length one);
       below = λ i l. let e : i ≡ 0 = omega (arith, l, ap length one) in
-          rw (one, e, of_first g c) (below g c c.args.l.now.first c.states-states.ensures.lts.in_range.first_below);
+          rw (one, e, of_first g at) (below g at c.args.l.now.first c.states-states.ensures.lts.in_range.first_below);
       taken = λ rel classes. Taken-start rel (system_of c.args.l.now) (slice_index c.args.blocks.block_ids)
-          (laws g c rel classes) c.count.result _ (λ t l. omega (arith, below g c t l, c.count.ensures)) (set_first g c)
-          c.in_ok-with_capacity.ensures.items (one ∙ ap (λ b. b ∷ []) (of_first g c));
+          (laws g at rel classes) c.count.result _ (λ t l. omega (arith, below g at t l, c.count.ensures))
+          (set_first g at) c.in_ok-with_capacity.ensures.items (one ∙ ap (λ b. b ∷ []) (of_first g at));
     }
 
 pub loop-s-preserved : goal.loop-s-preserved
 loop-s-preserved g c =
-    let at = (goal.at.loop-s-preserved g c).In_ok-vec in
+    let at = (goal.at.loop-s-preserved g c).In_ok-vec-2 in
     let s = c.loop-s.s in
     let up = c.loop-s.invariant in
     let low : s < c.args.l.now.states = omega (arith, c.states-states.ensures.value) in
@@ -64,8 +67,8 @@ loop-s-preserved g c =
     c.index.ensures false in
     let is_reached = subst (λ m. IsTrue m ↔ Reachable (system_of c.args.l.now) s) (sym mark) (c.requires.reached s) in
     record {
-      room = (TakesState-room takes).0 ∙ up.room;
-      few = omega (arith, (TakesState-room takes).2, up.few);
+      room = grind (arith, takes.classes, up.room, length-set {A = ℕ});
+      few = grind (arith, takes.classes, up.few, length_push {X = ℕ});
       below = λ i l. grind (arith, class_at takes i l, up.below i, below g at s low);
       taken = λ rel classes. Taken-adds rel (system_of c.args.l.now) _
           (laws g at rel classes) s c.loop-s.taken _ _ is_reached low
@@ -75,10 +78,9 @@ loop-s-preserved g c =
 
 pub returns : goal.returns
 returns g c = λ rel classes. let A = system_of c.args.l.now in
-    let laws = laws g (goal.at.returns g c).In_ok-vec rel classes in
+    let laws = laws g (goal.at.returns g c).In_ok-vec-2 rel classes in
     let end : c.loop-s.s ≡ A.states = omega (arith, c.states-states.ensures.value) in
     let h = rw end at (c.loop-s.invariant.taken rel classes) in
-    let reached = c.requires.reached in
     let seen = λ (s : ℕ) (way : Reachable A s). h.seen s (laws.below s way) way in
     let numbered = λ (s : ℕ) (way : Reachable A s). h.numbered s (laws.below s way) (seen s way).1 in
     record {
@@ -87,10 +89,10 @@ returns g c = λ rel classes. let A = system_of c.args.l.now in
         reached_long = c.requires.reached_long;
         numbers_long = h.numbers_long;
         classes_below = c.loop-s.invariant.below;
-        below = λ s m. let way = (reached s).0 m in rw (seen s way).0 (numbered s way).0;
-        class = λ s i m. let way = (reached s).0 m in rw (seen s way).0 (h.classes s i (laws.below s way));
+        below = λ s m. let way = (c.requires.reached s).0 m in rw (seen s way).0 (numbered s way).0;
+        class = λ s i m. let way = (c.requires.reached s).0 m in rw (seen s way).0 (h.classes s i (laws.below s way));
       };
-      reached = reached;
+      reached = c.requires.reached;
       number = λ s way. rw (seen s way).0 ((numbered s way).1 s way refl);
       counted = rw h.counted.2 (laws.all h.counted.0 h.counted.1);
       few = h.fewer laws.system.first;

@@ -1,4 +1,4 @@
-use Rattle.std.proofs.Common.{ℕ, List, ◌≡◌, ◌+◌, false, length, sym, arith}
+use Rattle.std.proofs.Common.{ℕ, List, ◌≡◌, ◌+◌, false, length, ap, sym, arith}
 use Rattle.std.proofs.lemmas.List.Sums.{sum_by-cons}
 use Rattle.std.specs.List.{slice_index_or}
 use Rattle.lts.specs.Lts.{system_of, row_of}
@@ -30,6 +30,11 @@ pub loop-s-preserved : goal.loop-s-preserved
 loop-s-preserved g c = let done = rw c.states.ensures.value at c.in_ok-mark_targets.ensures in
     ReadsOnce-row c.loop-s.invariant c.mark_targets.ensures.visits
     (rw done.places (ahead g (goal.at.loop-s-preserved g c).In-Some)) done.search
+
+pub loop-s-smaller : goal.loop-s-smaller
+loop-s-smaller g c = let done = rw c.states.ensures.value at c.in_ok-mark_targets.ensures in
+    let less = ahead g (goal.at.loop-s-smaller g c).In-Some in
+    omega (arith, done.queue, done.places, less, ap length c.in-Some.ensures.items)
 
 pub returns-in_err-mark_targets-clause-visits : goal.returns-in_err-mark_targets-clause-visits
 returns-in_err-mark_targets-clause-visits g c = let at = goal.at.returns-in_err-mark_targets-clause-visits g c in

@@ -1,8 +1,9 @@
-use Rattle.std.proofs.Common.{length, refl, ◌≡◌, ◌∙◌, ◌+◌, ◌-◌, ◌++◌, ◌∷◌, [], take, arith, rules, cond, not, ap}
+use Rattle.std.proofs.Common.{length, refl, ◌≡◌, ◌∙◌, ◌+◌, ◌-◌, ◌++◌, ◌∷◌, [], take, arith, cond, not, map, ap, List}
+use Rattle.std.proofs.Common.{rules, filter}
 use Rattle.std.proofs.lemmas.Bool.Decides.{nat_tests}
 use Rattle.std.proofs.lemmas.List.{length-append, take_all, append-nil, append_assoc, map-append}
-use Rattle.quotient_core.specs.Triples.{shown_by, shown_in}
-use Rattle.lts.specs.Lts.{row_of}
+use Rattle.quotient_core.specs.Triples.{between_numbers, is_left_out, shown_by}
+use Rattle.lts.specs.Lts.{Triple, row_of}
 use Rattle.std.proofs.lemmas.List.Elements.{filter-append}
 use Rattle.quotient_core.proofs.triples.read_row.Given.{Over}
 use Rattle.quotient_core.proofs.triples.read_row.Goals as goal
@@ -11,8 +12,9 @@ use Rattle.quotient_core.proofs.triples.read_row.Goals.{After-leaves_out}
 -- The row of a state is the list of its transitions. The quotient transition of the transition at the place `k` follows
 -- the quotient transitions that come from the part of the row before `k`, unless the quotient leaves it out.
 more : (g : Over) (c : After-leaves_out g) → let rows = c.args.rows.now in let row = row_of c.args.s rows.l.places in
-    shown_in rows c.args.s (take (c.loop-k.k + 1 - c.row-start.result.0) row)
-    ≡ shown_in rows c.args.s (take (c.loop-k.k - c.row-start.result.0) row)
+    let shown = λ (es : List Triple). filter (λ x. not (is_left_out rows.dropped x))
+    (map (between_numbers rows c.args.s) es) in
+    shown (take (c.loop-k.k + 1 - c.row-start.result.0) row) ≡ shown (take (c.loop-k.k - c.row-start.result.0) row)
     ++ cond (not c.leaves_out.result) (c.triple-triple.result ∷ []) []
 more g c = let rows = c.args.rows.now in
     let range = c.loop-k.auto.k in
@@ -52,4 +54,7 @@ returns-clause-whole g c = let shown = shown_by c.args.rows.now c.args.s in
     grind (arith, nat_tests)
 
 pub returns-clause-class : goal.returns-clause-class
-returns-clause-class g c = search (rules, take_all)
+returns-clause-class g c =
+    let whole = take_all (c.loop-k.k - c.row-start.result.0) (row_of c.args.s c.args.rows.now.l.places)
+    (omega (arith, c.row-start.ensures.count, c.loop-k-test.false)) in
+    rw whole at c.loop-k.invariant.class

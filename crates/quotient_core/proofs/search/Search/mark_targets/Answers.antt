@@ -1,5 +1,5 @@
 use Rattle.lts.specs.Lts.{source_of, label_of, target_of, place_at, system_of}
-use Rattle.std.proofs.lemmas.List.{get_or_default}
+use Rattle.std.proofs.lemmas.List.{append-nil, get_or_default, length_push}
 use Rattle.std.proofs.Common.{ℕ, List, ◌≡◌, ap, ◌∙◌, ◌<◌, length, refl, sym, subst, arith, rules}
 use Rattle.theory.proofs.CallerLemmas.{contains_here, contains_there, contains_cases}
 use Rattle.std.proofs.lemmas.Bool.{cases_eq}
@@ -8,7 +8,7 @@ use Rattle.theory.specs.System.{Reachable, Step}
 use Rattle.lts.specs.Labels.{text_of}
 use Rattle.quotient_core.specs.Numbers.{IsMarked}
 use Rattle.quotient_core.proofs.Reaching.{Follows, marked_below, mark_at, Searches-step}
-use Rattle.quotient_core.proofs.Reaching.{places_ahead-marks, states_ahead-marks}
+use Rattle.quotient_core.proofs.Reaching.{places_ahead-marks}
 use Rattle.quotient_core.proofs.search.Search.mark_targets.Given.{Over}
 use Rattle.quotient_core.proofs.search.Search.mark_targets.Goals as goal
 use Rattle.quotient_core.proofs.search.Search.mark_targets.Goals.{In_ok-mark}
@@ -45,7 +45,7 @@ loop-k-preserved g c = let at = (goal.at.loop-k-preserved g c).In_ok-mark in
       read = λ j low high.
           let now = mark_at marks (below g at) (target_of (place_at places j)) in
           grind (arith, cases_eq j c.loop-k.k, c.loop-k.invariant.read j, now, c.edge-target.ensures.target, low, high);
-      states = omega (arith, states_ahead-marks marks (below g at), c.loop-k.invariant.states);
+      queue = let range = c.loop-k.auto.k in grind (arith, marks.queue, length_push {X = ℕ}, append-nil {A = ℕ});
       places = places_ahead-marks marks (below g at) places ∙ c.loop-k.invariant.places;
       visits = let range = c.loop-k.auto.k in search rules;
     }

@@ -1,4 +1,4 @@
-use Rattle.quotient_core.proofs.Visits.{visits_at_most, visits_then, room_after}
+use Rattle.quotient_core.proofs.Visits.{visits_then, room_after}
 use Rattle.std.proofs.Common.{◌≡◌, false, get_or, replicate, arith, rules}
 use Rattle.lts.specs.Lts.{system_of}
 use Rattle.quotient_core.proofs.Reaching.{ReadsOnce-first, Searches-pass, ReadsOnce-skip, places_ahead-pass}
@@ -39,6 +39,3 @@ loop-s-preserved g c = let pass = places_ahead-pass c.loop-s.invariant c.states-
 pub returns-clause-reads : goal.returns-clause-reads
 returns-clause-reads g c = let all : c.loop-s.s ≡ c.args.l.now.states = omega (arith, c.states-s-end.ensures.value) in
     rw all at c.loop-s.invariant
-
-pub returns-clause-visits : goal.returns-clause-visits
-returns-clause-visits g c = visits_at_most c.loop-s.invariant.visits (omega arith)
