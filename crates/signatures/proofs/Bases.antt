@@ -79,13 +79,5 @@ one_of_both P xs ys all e = rw (sym e) (
   ],
 )
 
--- Each list has a base, which is a list of pairs that several lists can share. The bases are stored in the trie. If
--- lists are added to the trie, the base of each list has the same pairs as before.
-pub HasBase-grow : {old new : List (List (ℕ × ℕ))} → Grow old new
-    → (extensions : List (ℕ × List (ℕ × ℕ))) (ids : List ℕ)
-    → All (IsExtension old) extensions
-    → All (λ k. k < length extensions) ids → (z : ℕ × ℕ) → HasBase new extensions ids z ↔ HasBase old extensions ids z
-HasBase-grow grow extensions ids each known z = search rules
-
 pub joined_halves : {A B C H I W : Type 0} → A ↔ (B ⊎ C) → B ↔ H → C ↔ I → W ↔ (H ⊎ I) → A ↔ W
 joined_halves union first second whole = search rules
