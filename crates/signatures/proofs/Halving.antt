@@ -2,8 +2,8 @@
 -- number, and all other pairs. For this comparison, each pair is represented by a number (`pair_value`). The lemmas
 -- show that the first and the last pair of the list determine its split point. They also show when two interned lists
 -- are the halves of a list, and that the IDs of these two halves are unique.
-use Rattle.std.proofs.Common.{rules, ◌≡◌, ◌∙◌, ℕ, ◌-◌, ◌<◌, ◌≤◌, List, [], ◌++◌, length, get_or, Contains, ap, sym}
-use Rattle.std.proofs.Common.{refl, inl, inr, arith, min, max}
+use Rattle.std.proofs.Common.{rules, ◌≡◌, ℕ, ◌-◌, ◌<◌, ◌≤◌, List, [], ◌++◌, length, get_or, Contains, inl, inr, arith}
+use Rattle.std.proofs.Common.{min, max}
 use Rattle.std.specs.List.Sorted.{IsStrictlySortedBy}
 use Rattle.std.proofs.lemmas.List.{length-append, get_or_default}
 use Rattle.std.proofs.lemmas.List.Elements.{Contains-get_or}

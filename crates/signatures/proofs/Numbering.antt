@@ -3,7 +3,7 @@
 -- lemmas show that the stored lists stay the same if lists are added to the trie, or if a list is appended to the table
 -- of lists.
 use Rattle.std.proofs.Common.{rules, ◌≡◌, ◌∙◌, ◌⊎◌, ◌↔◌, ℕ, ◌<◌, ◌≤◌, List, [], ◌∷◌, ◌++◌, length, slice_index}
-use Rattle.std.proofs.Common.{Contains, ap, sym, refl, inl, inr, arith, All}
+use Rattle.std.proofs.Common.{Contains, ap, inl, inr, arith, All}
 use Rattle.std.specs.List.Sorted.{IsStrictlySortedBy}
 use Rattle.std.proofs.lemmas.Bool.{cases_eq, cases_lt}
 use Rattle.std.proofs.lemmas.List.{length-map, length_push, map-append, get_or-map, get_or_append_left, nil_from_length}
@@ -64,15 +64,10 @@ pub same_base : (trie : List (List (ℕ × ℕ))) (x y : ℕ × List (ℕ × ℕ
     → IsExtension trie y → x.0 ≡ y.0 → (x.1 ≡ y.1) ↔ (extended trie x ≡ extended trie y)
 same_base trie x y is is' e = (
   λ f. cc,
-  λ f. rising_unique _ _ is.ascending is'.ascending (λ z. grind (
-    arith,
-    merged_has z (list_at trie x.0) x.1,
-    merged_has z (list_at trie y.0) y.1,
-    f,
-    e,
-    is.apart z,
-    is'.apart z,
-  )),
+  λ f. rising_unique _ _ is.ascending is'.ascending (λ z.
+      let one = merged_has z (list_at trie x.0) x.1 in
+      let two = merged_has z (list_at trie y.0) y.1 in
+      grind (arith, one, two, f, e, is.apart z, is'.apart z)),
 )
 
 -- A list is stored as a base, which is a list of pairs that several lists can share, and as extra pairs, which the base

@@ -3,8 +3,8 @@
 -- union of two lists, each of the two lists is divided at the split point of the union into a lower and an upper part.
 -- The union of the two lower parts is the first half of the result, and the union of the two upper parts is the second
 -- half.
-use Rattle.std.proofs.Common.{◌≡◌, ◌⊎◌, ◌↔◌, ℕ, ◌+◌, ◌-◌, ◌<◌, min, max, List, [], ◌++◌, length, Contains, ap, sym}
-use Rattle.std.proofs.Common.{subst, refl, inl, inr, arith, rules, length-append, append-nil}
+use Rattle.std.proofs.Common.{◌≡◌, ◌⊎◌, ◌↔◌, ℕ, ◌+◌, ◌-◌, ◌<◌, min, max, List, [], ◌++◌, length, sym, subst, refl, inr}
+use Rattle.std.proofs.Common.{arith, rules, length-append, append-nil}
 use Rattle.std.specs.List.Sorted.{IsStrictlySortedBy}
 use Rattle.signatures.specs.declared.nodes.{Halves.Halves, TheConstants.MOST_WHOLE}
 use Rattle.signatures.specs.Lists.{pair_cmp, list_at, merged, Grow}

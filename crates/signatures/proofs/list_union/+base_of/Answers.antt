@@ -1,4 +1,4 @@
-use Rattle.std.proofs.Common.{rules, ◌∙◌, ℕ, ◌++◌, ◌↔◌, ◌<◌, length, All, take-append-drop, Contains}
+use Rattle.std.proofs.Common.{rules, ◌∙◌, ◌++◌, ◌↔◌, ◌<◌, length, All, take-append-drop, Contains}
 use Rattle.std.proofs.lemmas.Result.{IfOk-weaker}
 use Rattle.signatures.specs.Lists.{list_at}
 use Rattle.signatures.specs.Extensions.{extension_at, HasBase}
