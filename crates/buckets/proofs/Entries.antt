@@ -11,9 +11,20 @@ use Rattle.buckets.specs.declared.chains.Entry.{Entry}
 use Rattle.buckets.specs.declared.TheConstants.{MOST_ENTRIES}
 use Rattle.buckets.specs.Buckets.{tag_at, IsLast}
 use Rattle.buckets.specs.declared.chains.TheConstants.{NO_ENTRY}
-use Rattle.buckets.specs.Chains.{tags_of, bucket_of_tag, entry_at, entry_bucket, AreBuckets, AreChained}
-use Rattle.buckets.proofs.Chaining.{IsChained-push}
+use Rattle.buckets.specs.Chains.{tags_of, bucket_of_tag, entry_at, entry_bucket, AreBuckets, IsChained, AreChained}
 use Rattle.std.proofs.Math.ListN as plain
+
+-- Each bucket has a chain, which links the IDs in this bucket. Suppose that the IDs less than `count` are in the chains
+-- of their buckets. If the ID `count` is put at the head of the chain of its bucket, then the IDs up to and including
+-- `count` are in the chains of their buckets (`IsChained`).
+module _ (count : ℕ)
+    (bucket before bucket' before' : ℕ → ℕ) (heads : List ℕ) (b : ℕ) (chained : IsChained count bucket before heads)
+    (some : 0 < count) (in' : b < length heads)
+    (buckets : (r : ℕ) → 0 < r → r < count → bucket' r ≡ bucket r)
+    (befores : (r : ℕ) → r < count → before' r ≡ before r)
+    (fits : bucket' count ≡ b) (head : before' count ≡ get_or heads b 0) where
+  pub IsChained-push : IsChained (count + 1) bucket' before' (set heads b count)
+  IsChained-push = search rules
 
 pub tag_is : (entries : List Entry) (r : ℕ) → tag_at (tags_of entries) r ≡ (entry_at entries r).tag
 tag_is entries r = plain.get_or-map (λ x. x.tag) entries r NO_ENTRY

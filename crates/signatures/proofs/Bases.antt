@@ -1,14 +1,12 @@
 -- A list is stored as a base, which is a list of pairs that several lists can share, and as extra pairs, which the base
 -- lacks. The bases are stored in the trie. A pair is in the union of several lists if and only if it is in the base of
 -- one of these lists, or is an extra pair of one of these lists.
-use Rattle.std.proofs.Common.{◌≡◌, ◌∙◌, ◌⊎◌, ◌↔◌, ℕ, Option, None, Some, ◌<◌, List, ◌++◌, length, slice_index, Contains}
-use Rattle.std.proofs.Common.{[], ◌+◌, ◌-◌, ap, sym, subst, refl, inl, inr, arith, rules, All, IfSome}
-use Rattle.std.proofs.Common.{get_or-append-add, length-append}
+use Rattle.std.proofs.Common.{◌≡◌, ◌⊎◌, ◌↔◌, ℕ, Option, None, Some, ◌<◌, List, ◌++◌, length, slice_index, Contains, []}
+use Rattle.std.proofs.Common.{◌+◌, ◌-◌, sym, refl, inl, inr, arith, rules, All, IfSome, get_or-append-add}
 use Rattle.std.proofs.lemmas.Bool.{cases_eq, cases_lt}
 use Rattle.signatures.specs.Lists.{list_at, merged, Grow, HasOne}
-use Rattle.signatures.specs.Extensions.{ShareNone, extension_at, IsExtension, extended, extended_lists, OneHas, HasBase}
-use Rattle.signatures.specs.Extensions.{HasExtra}
-use Rattle.std.proofs.lemmas.List.{length-map, get_or_append_left, get_or-append_right}
+use Rattle.signatures.specs.Extensions.{ShareNone, extension_at, IsExtension, extended_lists, OneHas, HasBase, HasExtra}
+use Rattle.std.proofs.lemmas.List.{length-map, length-append, get_or_append_left, get_or-append_right}
 use Rattle.signatures.proofs.Numbering.{has_either}
 
 own_or_not : (own : Option ℕ) (base : ℕ) → (own ≡ Some base) ⊎ ¬ (own ≡ Some base)
@@ -32,10 +30,8 @@ module _ (trie : List (List (ℕ × ℕ))) (extensions : List (ℕ × List (ℕ 
             search (rules, at j low),
         λ o. elim o [
           | inl h ↦ search (rules, at h.0 h.1)
-          | inr o ↦ elim o [
-            | inl h ↦ search (rules, at h.0 h.1)
-            | inr h ↦ search (rules, at h.0 h.1)
-          ]
+          | inr (inl h) ↦ search (rules, at h.0 h.1)
+          | inr (inr h) ↦ search (rules, at h.0 h.1)
         ],
       )
 
@@ -78,14 +74,6 @@ one_of_both P xs ys all e = rw (sym e) (
     | inr (j, low, p) ↦ (length xs + j, omega (arith, length-append xs ys), rw get_or-append-add p)
   ],
 )
-
--- Each list has a base, which is a list of pairs that several lists can share. The bases are stored in the trie. If
--- lists are added to the trie, the base of each list has the same pairs as before.
-pub HasBase-grow : {old new : List (List (ℕ × ℕ))} → Grow old new
-    → (extensions : List (ℕ × List (ℕ × ℕ))) (ids : List ℕ)
-    → All (IsExtension old) extensions
-    → All (λ k. k < length extensions) ids → (z : ℕ × ℕ) → HasBase new extensions ids z ↔ HasBase old extensions ids z
-HasBase-grow grow extensions ids each known z = search rules
 
 pub joined_halves : {A B C H I W : Type 0} → A ↔ (B ⊎ C) → B ↔ H → C ↔ I → W ↔ (H ⊎ I) → A ↔ W
 joined_halves union first second whole = search rules

@@ -2,7 +2,7 @@
 -- lacks. To compute the union of several lists, pairs are collected from the bases and from the extra pairs of these
 -- lists. Extra pairs that are already in the base of the union are removed.
 use Rattle.std.proofs.Common.{rules, ◌≡◌, ◌⊎◌, ◌↔◌, ℕ, ◌+◌, Bool, true, not, List, slice_index, filter, Contains, ap}
-use Rattle.std.proofs.Common.{subst, arith}
+use Rattle.std.proofs.Common.{arith}
 use Rattle.std.specs.Cmp.{eq_by_cmp_equiv}
 use Rattle.std.specs.Ordering.{eq_by_cmp}
 use Rattle.std.specs.Set.{is_member}
@@ -27,16 +27,11 @@ module _ (extensions : List (ℕ × List (ℕ × ℕ))) (ids : List ℕ) (P : �
     (i : ℕ) (is : x ≡ extension_at extensions (slice_index ids i)) {B D : Type 0}
     (before : B ↔ (D ⊎ SomeBelow (IsBeside extensions ids P z) i)) where
   pub beside_skip : (P x.0 → ⊥) → B ↔ (D ⊎ SomeBelow (IsBeside extensions ids P z) (i + 1))
-  beside_skip none =
-      let other : IsBeside extensions ids P z i → ⊥ = λ h. none (rw is h.0) in
-      search (rules, up_to_more (IsBeside extensions ids P z) i)
+  beside_skip none = search (rules, up_to_more (IsBeside extensions ids P z) i)
 
   pub beside_more : {A : Type 0} → P x.0 → A ↔ (B ⊎ Contains x.1 z) →
       A ↔ (D ⊎ SomeBelow (IsBeside extensions ids P z) (i + 1))
-  beside_more p now =
-      let here : Contains x.1 z ↔ IsBeside extensions ids P z i =
-      subst (λ w. Contains x.1 z ↔ (P w.0 × Contains w.1 z)) is ((λ d. (p, d)), (λ h. h.1)) in
-      search (rules, up_to_more (IsBeside extensions ids P z) i)
+  beside_more p now = search (rules, up_to_more (IsBeside extensions ids P z) i)
 
 -- `is_lacking` is true if the pair z is not in the list.
 abbrev pub is_lacking : List (ℕ × ℕ) → ℕ × ℕ → Bool

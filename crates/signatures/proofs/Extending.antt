@@ -1,8 +1,8 @@
 -- A list is stored as a base, which is a list of pairs that several lists can share, and as extra pairs, which the base
 -- lacks. The fingerprint of the list (a hash of 64 bits) is the sum of the fingerprints of its base and of its extra
 -- pairs, modulo 2^64.
-use Rattle.std.proofs.Common.{rules, ◌≡◌, ◌∙◌, ℕ, ◌+◌, ◌%◌, ◌^◌, List, [], ◌∷◌, ◌++◌, Contains, Less, Equal, Greater}
-use Rattle.std.proofs.Common.{ap, sym, subst, refl, inl, inr, arith, sum_by, is_eq, Ordering}
+use Rattle.std.proofs.Common.{◌≡◌, ◌∙◌, ℕ, ◌+◌, ◌%◌, ◌^◌, List, [], ◌∷◌, ◌++◌, Contains, Less, Equal, Greater, ap, sym}
+use Rattle.std.proofs.Common.{subst, refl, inl, inr, arith, sum_by, is_eq, Ordering}
 use Rattle.std.specs.List.Sorted.{IsStrictlySortedBy}
 use Rattle.std.specs.Ordering.{match_ordering}
 use Rattle.std.proofs.lemmas.List.Sums.{sum_by-cons}

@@ -2,8 +2,8 @@
 -- number, and all other pairs. For this comparison, each pair is represented by a number (`pair_value`). The lemmas
 -- show that the first and the last pair of the list determine its split point. They also show when two interned lists
 -- are the halves of a list, and that the IDs of these two halves are unique.
-use Rattle.std.proofs.Common.{rules, ◌≡◌, ◌∙◌, ℕ, ◌-◌, ◌<◌, ◌≤◌, List, [], ◌++◌, length, get_or, Contains, ap, sym}
-use Rattle.std.proofs.Common.{refl, inl, inr, arith, min, max}
+use Rattle.std.proofs.Common.{rules, ◌≡◌, ℕ, ◌-◌, ◌<◌, ◌≤◌, List, [], ◌++◌, length, get_or, Contains, inl, inr, arith}
+use Rattle.std.proofs.Common.{min, max}
 use Rattle.std.specs.List.Sorted.{IsStrictlySortedBy}
 use Rattle.std.proofs.lemmas.List.{length-append, get_or_default}
 use Rattle.std.proofs.lemmas.List.Elements.{Contains-get_or}
@@ -46,9 +46,8 @@ module _ (list : List (ℕ × ℕ)) (rise : IsStrictlySortedBy pair_cmp list) (f
   keys_between : (z : ℕ × ℕ) → Contains list z → (low ≤ pair_value z) × (pair_value z ≤ high)
   keys_between z (k, low', is) =
       let keys = rising_keys list rise fit in
-      let same = ap pair_value (get_or_default list k (0, 0) z low' ∙ is) in
-      let last = keys k (length list - 1) (0, 0) (omega arith) (omega arith) in
-      omega (arith, keys 0 k (0, 0) (omega arith) low', last, same)
+      let at = get_or_default list k (0, 0) z in
+      grind (arith, at, keys 0 k (0, 0), keys k (length list - 1) (0, 0), is, low_is, high_is, low')
 
   pub first_before_last : 1 < length list → low < high
   first_before_last many =
@@ -79,7 +78,8 @@ IsCut-ends {list} {low} {high} {bit} {c} ends place =
 pub HasEnds-union : {list xs ys : List (ℕ × ℕ)} {low high low' high' : ℕ} → HasEnds xs low high
     → HasEnds ys low' high' → Unites list xs ys → HasEnds list (min low low') (max high high')
 HasEnds-union {list} {xs} {ys} {low} {high} {low'} {high'} first second unites = record {
-  before = search (rules, cases_lt low low', first.before, second.before, unites first.before.0, unites second.before.0);
+  before =
+      search (rules, cases_lt low low', first.before, second.before, unites first.before.0, unites second.before.0);
   after = search (rules, cases_lt high high', first.after, second.after, unites first.after.0, unites second.after.0);
   alike = λ bit l h c place under over.
       let one = first.alike bit l h c place (omega arith) (omega arith) in

@@ -40,12 +40,10 @@ IsUnion-grown {j} {k} grow first second within exactly = record {
   exactly = rw (grow.same j first, grow.same k second) exactly;
 }
 
--- If a stored list is the union of two stored lists, it is still their union after other lists have been added.
-module _ {old new : List (List (ℕ × ℕ))} (grow : Grow old new) where
-  pub IsUnion-grow : (key : ℕ × ℕ) (i : ℕ) → IsUnion old key i → IsUnion new key i
-  IsUnion-grow key i is =
-      let within : i < length new = omega (arith, is.within, grow.longer) in
-      IsUnion-grown grow is.first is.second within (rw (grow.same i is.within) is.exactly)
-
-  pub AreUnions-grow : (unions : List ((ℕ × ℕ) × ℕ)) → AreUnions old unions → AreUnions new unions
-  AreUnions-grow unions are z c = IsUnion-grow z.0 z.1 (are z c)
+-- If stored lists are the unions of other stored lists, they are still their unions after more lists have been added.
+pub AreUnions-grow : {old new : List (List (ℕ × ℕ))} → Grow old new → (unions : List ((ℕ × ℕ) × ℕ))
+    → AreUnions old unions → AreUnions new unions
+AreUnions-grow grow unions are z c =
+    let is = are z c in
+    IsUnion-grown grow is.first is.second (omega (arith, is.within, grow.longer))
+    (rw (grow.same _ is.within) is.exactly)

@@ -4,7 +4,7 @@
 -- the first list are less than c, and that all pairs of the second list are at least c. Then the first list followed by
 -- the second list is in ascending order.
 use Rattle.std.proofs.Common.{rules, ◌≡◌, ◌↔◌, ◌⊎◌, ℕ, ◌+◌, ◌^◌, ◌<◌, ◌≤◌, List, [], ◌∷◌, ◌++◌, length, get_or, take}
-use Rattle.std.proofs.Common.{drop, true, false, ltb, Contains, Less, ap, inl, inr, arith}
+use Rattle.std.proofs.Common.{drop, true, false, ltb, Contains, Less, inl, inr, arith}
 use Rattle.std.specs.List.Sorted.{IsStrictlySortedBy, IsNonDecreasingBy, IsPartitionPoint}
 use Rattle.std.proofs.lemmas.Bool.{cases_eq}
 use Rattle.std.proofs.lemmas.List.Elements.{Contains-append_cases, Contains-append_left, Contains-append_right}

@@ -3,9 +3,9 @@
 -- lemmas show that the stored lists stay the same if lists are added to the trie, or if a list is appended to the table
 -- of lists.
 use Rattle.std.proofs.Common.{rules, ◌≡◌, ◌∙◌, ◌⊎◌, ◌↔◌, ℕ, ◌<◌, ◌≤◌, List, [], ◌∷◌, ◌++◌, length, slice_index}
-use Rattle.std.proofs.Common.{Contains, ap, sym, refl, inl, inr, arith, All}
+use Rattle.std.proofs.Common.{Contains, ap, inl, inr, arith, All}
 use Rattle.std.specs.List.Sorted.{IsStrictlySortedBy}
-use Rattle.std.proofs.lemmas.Bool.{cases_eq}
+use Rattle.std.proofs.lemmas.Bool.{cases_eq, cases_lt}
 use Rattle.std.proofs.lemmas.List.{length-map, length_push, map-append, get_or-map, get_or_append_left, nil_from_length}
 use Rattle.std.proofs.lemmas.List.Elements.{All-push, All-weaker, All-contains, All-map}
 use Rattle.signatures.specs.Lists.{pair_cmp, list_at, merged, AreLists, Grow, HasOne}
@@ -64,15 +64,10 @@ pub same_base : (trie : List (List (ℕ × ℕ))) (x y : ℕ × List (ℕ × ℕ
     → IsExtension trie y → x.0 ≡ y.0 → (x.1 ≡ y.1) ↔ (extended trie x ≡ extended trie y)
 same_base trie x y is is' e = (
   λ f. cc,
-  λ f. rising_unique _ _ is.ascending is'.ascending (λ z. grind (
-    arith,
-    merged_has z (list_at trie x.0) x.1,
-    merged_has z (list_at trie y.0) y.1,
-    f,
-    e,
-    is.apart z,
-    is'.apart z,
-  )),
+  λ f. rising_unique _ _ is.ascending is'.ascending (λ z.
+      let one = merged_has z (list_at trie x.0) x.1 in
+      let two = merged_has z (list_at trie y.0) y.1 in
+      grind (arith, one, two, f, e, is.apart z, is'.apart z)),
 )
 
 -- A list is stored as a base, which is a list of pairs that several lists can share, and as extra pairs, which the base
@@ -99,23 +94,19 @@ first_is trie extensions are none = search (rules, get_or-map, are.first, merged
 module _ (trie : List (List (ℕ × ℕ))) (extensions : List (ℕ × List (ℕ × ℕ))) (tags : List ℕ) (x : ℕ × List (ℕ × ℕ))
     (tag : ℕ)
     (are : AreExtended trie extensions tags) where
-  absent_all : list_at trie 0 ≡ [] → (extended trie x ≡ [] → ⊥)
-      → IsNewList (extended_lists trie extensions) (extended trie x)
-      → (q : ℕ) → q < length (extended_lists trie extensions) → list_at (extended_lists trie extensions) q
-      ≡ extended trie x → ⊥
-  absent_all none some absent q low e = search (rules, cases_eq, first_is)
-
   pub AreExtended-push : IsExtension trie x → list_at trie 0 ≡ [] → (extended trie x ≡ [] → ⊥)
       → IsNewList (extended_lists trie extensions) (extended trie x)
       → tag ≡ tag_of (extended trie x) → AreExtended trie (extensions ++ x ∷ []) (tags ++ tag ∷ [])
   AreExtended-push is none some absent tagged =
       let longer = length_push extensions x in
-      let old = are.some in
+      let filled = are.some in
+      let empty = first_is trie extensions are none in
       record {
         each = All-push (IsExtension trie) extensions x are.each is;
         some = omega arith;
         first = get_or_append_left extensions (x ∷ []) (0, []) 0 are.some ∙ are.first;
-        different = search (rules, map-append, are.different, absent_all, length_push, list-old, list-new);
+        different = let old = are.different in
+            rw map-append (search (rules, old, cases_eq, cases_lt, empty, length_push, list-old, list-new));
         tagged = simp (are.tagged, tagged, map-append);
       }
 
@@ -138,9 +129,7 @@ pub extended_some : (trie : List (List (ℕ × ℕ))) (x : ℕ × List (ℕ × �
     → IsExtension trie x → (x.0 ≡ 0 → x.1 ≡ [] → ⊥) → extended trie x ≡ [] → ⊥
 extended_some trie x stored different is some e =
     let longer = length_union pair_cmp (list_at trie x.0) x.1 in
-    let empty = ap length e in
-    some (different x.0 0 is.base stored.some (nil_from_length _ (omega arith) ∙ sym stored.first))
-    (nil_from_length _ (omega arith))
+    search (rules, longer, nil_from_length, different, is.base, stored.some, stored.first)
 
 -- In the model of `Interner`, a list is stored as a base, which is a list of pairs that several lists can share, and as
 -- extra pairs, which the base lacks. A pair is in the list if and only if it is in the base or is one of the extra

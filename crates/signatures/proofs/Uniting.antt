@@ -3,8 +3,8 @@
 -- union of two lists, each of the two lists is divided at the split point of the union into a lower and an upper part.
 -- The union of the two lower parts is the first half of the result, and the union of the two upper parts is the second
 -- half.
-use Rattle.std.proofs.Common.{◌≡◌, ◌⊎◌, ◌↔◌, ℕ, ◌+◌, ◌-◌, ◌<◌, min, max, List, [], ◌++◌, length, Contains, ap, sym}
-use Rattle.std.proofs.Common.{subst, refl, inl, inr, arith, rules, length-append}
+use Rattle.std.proofs.Common.{◌≡◌, ◌⊎◌, ◌↔◌, ℕ, ◌+◌, ◌-◌, ◌<◌, min, max, List, [], ◌++◌, length, sym, subst, refl, inr}
+use Rattle.std.proofs.Common.{arith, rules, length-append, append-nil}
 use Rattle.std.specs.List.Sorted.{IsStrictlySortedBy}
 use Rattle.signatures.specs.declared.nodes.{Halves.Halves, TheConstants.MOST_WHOLE}
 use Rattle.signatures.specs.Lists.{pair_cmp, list_at, merged, Grow}
@@ -18,8 +18,13 @@ use Rattle.signatures.proofs.Merging.{merged_has}
 use Rattle.signatures.proofs.Joining.{or_swap}
 use Rattle.signatures.proofs.Rising.{rising_fewer}
 
-pub none_in : (list : List (ℕ × ℕ)) → list ≡ [] → (z : ℕ × ℕ) → Contains list z → ⊥
-none_in list e z d = let none = ap length e in let k = d.1 in omega arith
+-- If all pairs of a list are less than c, or all pairs are at least c, then the number c divides the list into the list
+-- itself and the empty list.
+pub IsParted-under : {list : List (ℕ × ℕ)} {c : ℕ} → IsUnder list c → IsParted list c list []
+IsParted-under {list} under = record { joined = sym (append-nil list); under = under; over = search rules }
+
+pub IsParted-over : {list : List (ℕ × ℕ)} {c : ℕ} → IsOver list c → IsParted list c [] list
+IsParted-over over = record { joined = refl; under = search rules; over = over }
 
 -- Suppose that a list is stored as two halves. Then it is too long to be stored whole (it has more than `MOST_WHOLE`
 -- pairs). Its split point (`IsCut`) is the number that divides it into these halves: the pairs less than this number,
@@ -46,9 +51,8 @@ parted_grown {below} {above} first second is low = search rules
 
 -- `AreUnited` holds if the union of xs and ys has two halves that are stored in `lists`, and if h has the IDs of these
 -- halves.
-pub record AreUnited (lists : List (List (ℕ × ℕ))) (h : Halves) (xs ys : List (ℕ × ℕ)) : Type 0 where
-  pub halves : AreHalvesIn lists h
-  pub exactly : (list : List (ℕ × ℕ)) → list ≡ list_at lists h.below ++ list_at lists h.above → Unites list xs ys
+abbrev pub AreUnited : List (List (ℕ × ℕ)) → Halves → List (ℕ × ℕ) → List (ℕ × ℕ) → Type 0
+AreUnited lists h xs ys = AreHalvesIn lists h × Unites (list_at lists h.below ++ list_at lists h.above) xs ys
 
 either_mixed : {W L U B C A D X Y : Type 0} → W ↔ (L ⊎ U) → L ↔ (B ⊎ C) → U ↔ (A ⊎ D) → X ↔ (B ⊎ A) →
     Y ↔ (C ⊎ D) → W ↔ (X ⊎ Y)
@@ -98,16 +102,11 @@ module _ {xs ys below above below' above' : List (ℕ × ℕ)} {c : ℕ} (first 
       → ((list : List (ℕ × ℕ)) → Unites list xs ys → IsCut list c)
       → AreUnited new (record { below = b; above = a; cut = c }) xs ys
   AreUnited-parts {new} {b} {a} grow low_in lower high_in high rise long cut =
-      let list = list_at new b ++ list_at new a in
       let low = subst (λ l. Unites l below below') (sym (grow.same b low_in)) lower in
       let all = united _ _ low high in
-      let fewer = rising_fewer ys list rise (λ z d. (all z).1 (inr d)) in
-      record {
-        halves =
-            AreHalvesIn-parts (omega (arith, grow.longer)) high_in (united_parted _ _ low high) (cut list all)
-            (omega arith);
-        exactly = λ l e. subst (λ l. Unites l xs ys) (sym e) all;
-      }
+      let fewer = rising_fewer ys _ rise (λ z d. (all z).1 (inr d)) in
+      let parted = united_parted _ _ low high in
+      (AreHalvesIn-parts (omega (arith, grow.longer)) high_in parted (cut _ all) (omega arith), all)
 
 pub ends_halves : {lists : List (List (ℕ × ℕ))} {k : ℕ} {h : Halves} → IsHalved lists k h
     → HasEnds (list_at lists k) (h.cut - 1) h.cut

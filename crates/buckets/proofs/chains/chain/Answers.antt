@@ -1,6 +1,6 @@
 use Rattle.std.proofs.Common.{length-set, rules}
 use Rattle.std.proofs.Math.Seq.{map-set_same}
-use Rattle.buckets.proofs.Chaining.{IsChained-push}
+use Rattle.buckets.proofs.Entries.{IsChained-push}
 use Rattle.buckets.proofs.chains.chain.Goals as goal
 
 pub loop-r-preserved : goal.loop-r-preserved

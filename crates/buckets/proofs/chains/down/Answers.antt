@@ -1,4 +1,4 @@
-use Rattle.std.proofs.Common.{◌≡◌, ◌∙◌, ◌<◌, length, arith}
+use Rattle.std.proofs.Common.{◌∙◌, ◌<◌, length, arith}
 use Rattle.buckets.proofs.Entries.{tag_is}
 use Rattle.buckets.proofs.chains.down.Goals as goal
 

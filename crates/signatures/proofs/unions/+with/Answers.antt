@@ -41,12 +41,12 @@ united_in t c =
     (c.invariants.ensures.stored.rise c.args.k _ c.requires.list) (halved_long c.in-Halved.ensures) is.cut
 
 pub intern-requires : goal.intern-requires
-intern-requires t c = (united_in t ((goal.at.intern-requires t c).In_ok-above-in-Halved)).halves
+intern-requires t c = (united_in t ((goal.at.intern-requires t c).In_ok-above-in-Halved)).0
 
 pub returns-in_ok-above-in-Halved-clause-exactly : goal.returns-in_ok-above-in-Halved-clause-exactly
 returns-in_ok-above-in-Halved-clause-exactly t c =
     let both = united_in t ((goal.at.returns-in_ok-above-in-Halved-clause-exactly t c).In_ok-above-in-Halved) in
-    IfOk-weaker c.intern.result _ _ (λ i e. both.exactly _ e) c.intern.ensures.list
+    IfOk-weaker c.intern.result _ _ (λ i e. rw e both.1) c.intern.ensures.list
 
 -- The list that is interned is the merge of two lists: the list with the ID `k`, and the list `pairs`.
 both_are : (t : ℕ) (c : After-deref t) → c.deref.result.now ≡ merged (list_at c.args.trie.now c.args.k) c.args.pairs.now

@@ -1,7 +1,7 @@
-use Rattle.std.proofs.Common.{rules, ◌∙◌, ◌++◌, ap, sym, append-nil, arith}
+use Rattle.std.proofs.Common.{rules, arith}
 use Rattle.signatures.specs.Lists.{list_at}
 use Rattle.signatures.proofs.Cuts.{all_under, all_over}
-use Rattle.signatures.proofs.Uniting.{none_in, halved_cut}
+use Rattle.signatures.proofs.Uniting.{halved_cut, IsParted-under, IsParted-over}
 use Rattle.signatures.proofs.unions.split.Goals as goal
 
 -- If the split point of the list, which is the number that divides the list into two halves, is less than `cut`, then
@@ -10,11 +10,8 @@ pub returns-then-halves-cut : goal.returns-then-halves-cut
 returns-then-halves-cut c = λ lists stored is bit alike. record {
   first = omega arith;
   second = omega arith;
-  parted = record {
-    joined = sym (ap (λ l. list_at lists c.args.k ++ l) stored.first ∙ append-nil (list_at lists c.args.k));
-    under = all_under (list_at lists c.args.k) bit _ _ alike (halved_cut is) c.if-halves-cut.true;
-    over = λ z d. absurd (none_in _ stored.first z d);
-  };
+  parted = rw stored.first
+      (IsParted-under (all_under (list_at lists c.args.k) bit _ _ alike (halved_cut is) c.if-halves-cut.true));
 }
 
 -- If the split point of the list, which is the number that divides the list into two halves, is greater than `cut`,
@@ -23,11 +20,8 @@ pub returns-then-cut-halves : goal.returns-then-cut-halves
 returns-then-cut-halves c = λ lists stored is bit alike. record {
   first = omega arith;
   second = omega arith;
-  parted = record {
-    joined = sym (ap (λ l. l ++ list_at lists c.args.k) stored.first);
-    under = λ z d. absurd (none_in _ stored.first z d);
-    over = all_over (list_at lists c.args.k) bit _ _ alike (halved_cut is) c.if-cut-halves.true;
-  };
+  parted = rw stored.first
+      (IsParted-over (all_over (list_at lists c.args.k) bit _ _ alike (halved_cut is) c.if-cut-halves.true));
 }
 
 pub returns : goal.returns

@@ -48,7 +48,7 @@ united_in t c =
     (c.invariants.ensures.stored.rise c.args.k _ c.requires.second) (halved_long c.in-Halved-shape.ensures) is.cut
 
 pub intern-requires : goal.intern-requires
-intern-requires t c = (united_in t ((goal.at.intern-requires t c).In_ok-above)).halves
+intern-requires t c = (united_in t ((goal.at.intern-requires t c).In_ok-above)).0
 
 -- The list that is interned is the union of the lists with the IDs `j` and `k`. So it can be stored as their union in
 -- the union cache.
@@ -58,7 +58,7 @@ module _ (t : ℕ) (c : In_ok-i t) where
 
   union : IsUnion c.intern.new.self (c.args.j, c.args.k) c.in_ok-i.i
   union = IsUnion-grown grown c.requires.first c.requires.second c.in_ok-i.ensures.within
-      ((united_in t ((goal.at.In_ok-i t c).In_ok-above)).exactly _ c.in_ok-i.ensures.list)
+      (rw c.in_ok-i.ensures.list (united_in t ((goal.at.In_ok-i t c).In_ok-above)).1)
 
 pub cache_union-requires : goal.cache_union-requires
 cache_union-requires t c = union t ((goal.at.cache_union-requires t c).In_ok-i)
