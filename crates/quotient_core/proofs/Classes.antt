@@ -7,7 +7,7 @@ use Rattle.std.proofs.Common.{slice_index, replicate, set, refl, sym, ap, subst,
 use Rattle.std.proofs.lemmas.Grind.{common_steps}
 use Rattle.std.proofs.lemmas.Bool.{cases_eq, cases_lt}
 use Rattle.std.proofs.lemmas.Bool.Decides.{nat_tests}
-use Rattle.std.proofs.lemmas.List.{get_or-set_same, get_or-set_other, get_or-replicate, length-replicate}
+use Rattle.std.proofs.lemmas.List.{get_or-set_same, get_or-set_other, get_or-replicate, length-set, length-replicate}
 use Rattle.std.proofs.lemmas.List.{length_push}
 use Rattle.theory.specs.System.{System, IsSystem, Reachable}
 use Rattle.theory.specs.Bisimulation.{Bisimilar}
@@ -27,6 +27,14 @@ at_push : (xs : List ℕ) (x t : ℕ) → t < length xs + 1 →
 at_push xs x t h = grind (arith, common_steps)
 
 module _ {b : ℕ} {reached : Bool} {old new : Numbers} (takes : TakesState b reached old new) where
+  -- The table `by_block` has the class number of each block, which is the quotient state that represents the states of
+  -- the block. When a state is given its class number, this table keeps its length, and at most one class is added to
+  -- the list of classes.
+  pub TakesState-room : (length new.by_block.items ≡ length old.by_block.items)
+      × (length old.classes.items ≤ length new.classes.items)
+      × (length new.classes.items ≤ length old.classes.items + 1)
+  TakesState-room = grind (arith, length-set {A = ℕ}, length_push {X = ℕ}, takes.classes)
+
   -- Suppose that a state has just been given its class number (the quotient state that represents it). Each class in
   -- the list of classes either was in this list before, or is the class of this state.
   pub class_at : (i : ℕ) → i < length new.classes.items → ((i < length old.classes.items)
@@ -156,7 +164,7 @@ module _ (rel : Relation) (A : System) (block : ℕ → ℕ) (laws : Laws rel A 
           rw takes.numbers (grind (arith, nat_tests, put, h.numbers_long, before, at t, own, few, low, l));
       numbered = λ t l some. elim (at t) [
         | inl (is, _) ↦ let had = h.numbered t l (λ none. some (is ∙ none)) in
-            rw is (grind (arith, had.0, takes.classes, length_push {X = ℕ}), had.1)
+            rw is (omega (arith, had.0, (TakesState-room takes).1), had.1)
         | inr (marked, none, e, _, is) ↦ rw is (
           grind (arith, takes.classes, length_push old.classes.items (block s)),
           λ u to_u to. number_shared s u count (way marked none) to_u (sym (to ∙ e))

@@ -1,13 +1,13 @@
 use Rattle.std.proofs.Common.{rules, ◌≡◌, ◌∙◌, ℕ, ◌<◌, ◌↔◌, false, IsTrue, [], ◌∷◌, length, slice_index, set, replicate}
 use Rattle.std.proofs.Common.{sym, subst, ap, refl, arith}
-use Rattle.std.proofs.lemmas.List.{get_or_read, length-set, length-replicate, length_push}
+use Rattle.std.proofs.lemmas.List.{get_or_read, length-set, length-replicate}
 use Rattle.theory.specs.System.{Reachable}
 use Rattle.theory.specs.declared.relation.Relation.{Relation}
 use Rattle.lts.specs.Lts.{system_of}
 use Rattle.quotient_core.specs.Numbers.{AreClasses}
 use Rattle.quotient_core.specs.declared.numbering.TheConstants.{NONE}
 use Rattle.quotient_core.proofs.Reaching.{marked_below}
-use Rattle.quotient_core.proofs.Classes.{Laws, Taken-start, Taken-adds, class_at}
+use Rattle.quotient_core.proofs.Classes.{Laws, Taken-start, Taken-adds, TakesState-room, class_at}
 use Rattle.quotient_core.proofs.numbering.number.Given.{Over}
 use Rattle.quotient_core.proofs.numbering.number.Goals as goal
 use Rattle.quotient_core.proofs.numbering.number.Goals.{In_ok-vec-2}
@@ -67,8 +67,8 @@ loop-s-preserved g c =
     c.index.ensures false in
     let is_reached = subst (λ m. IsTrue m ↔ Reachable (system_of c.args.l.now) s) (sym mark) (c.requires.reached s) in
     record {
-      room = grind (arith, takes.classes, up.room, length-set {A = ℕ});
-      few = grind (arith, takes.classes, up.few, length_push {X = ℕ});
+      room = (TakesState-room takes).0 ∙ up.room;
+      few = omega (arith, (TakesState-room takes).2, up.few);
       below = λ i l. grind (arith, class_at takes i l, up.below i, below g at s low);
       taken = λ rel classes. Taken-adds rel (system_of c.args.l.now) _
           (laws g at rel classes) s c.loop-s.taken _ _ is_reached low
