@@ -2,10 +2,10 @@
 //! transitions) once.
 ghost use Rattle.std.specs.Prelude.{◌≡◌, ◌+◌, ◌-◌, ◌<◌, ◌≤◌, length, IfOk, OnOk};
 ghost use Rattle.lts.specs.Meter.{HasRoomFor, Costs};
-ghost use Rattle.signatures.specs.Lists.{Grow};
-ghost use Rattle.inert.specs.Search.{stage_at, unread, KeepsVisited, IsFinished, AreOpen, AreInternedItems};
+ghost use Rattle.inert.specs.Search.{stage_at, unread, IsFinished, AreOpen, AreInternedItems};
 ghost use Rattle.inert.specs.Search.{SearchInvariant, Unvisited};
-ghost use Rattle.inert.specs.SearchMoves.{Closes, ahead, steps, HasRead, SignsMore, GoesOn, MakesProgress, IsAtRest};
+ghost use Rattle.inert.specs.SearchMoves.{Closes, ahead, steps, HasRead, GoesOn, MakesProgress, IsAtRest};
+ghost use Rattle.inert.specs.SearchMoves.{ReturnsToRest};
 ghost use Rattle.inert.specs.Steps.{remaining};
 
 use crate::component::intern_items;
@@ -29,12 +29,9 @@ impl DepthFirstSearch {
         requires rests { IsAtRest lens.now signatures.old self.old }
         requires room { HasRoomFor (M.counted m.old) 0
             (unread (remaining lens.now) self.old.stages) }
-        ensures rests { OnOk result (IsAtRest lens.now signatures.new self.new) }
-        ensures grow { OnOk result (Grow signatures.old signatures.new) }
-        ensures seen { OnOk result (KeepsVisited self.old.stages self.new.stages) }
+        ensures rests { OnOk result
+            (ReturnsToRest lens.now signatures.old signatures.new self.old self.new) }
         ensures finished { OnOk result (IsFinished self.new.stages s) }
-        ensures signs { OnOk result (SignsMore lens.now signatures.new self.old.stages
-            self.new.stages) }
         ensures visits { OnOk result
             ((M.counted m.new).visits + unread (remaining lens.now) self.new.stages
             ≡ (M.counted m.old).visits + unread (remaining lens.now) self.old.stages) }
@@ -66,8 +63,8 @@ impl DepthFirstSearch {
         requires rests { IsAtRest lens.now signatures.old self.old }
         requires room { HasRoomFor (M.counted m.old) 0
             (unread (remaining lens.now) self.old.stages) }
-        ensures on { OnOk result (GoesOn lens.now signatures.new self.old self.new) }
-        ensures grow { OnOk result (Grow signatures.old signatures.new) }
+        ensures on { OnOk result
+            (GoesOn lens.now signatures.old signatures.new self.old self.new) }
         ensures found { OnOk result (¬ (stage_at self.new.stages s ≡ Unvisited)) }
         ensures visits { OnOk result ((M.counted m.new).visits + ahead lens.now self.new
             ≡ (M.counted m.old).visits + unread (remaining lens.now) self.old.stages) }
@@ -110,7 +107,8 @@ impl DepthFirstSearch {
         requires walks { SearchInvariant lens.now signatures.now self.old }
         requires some { 0 < length self.old.frames }
         requires room { HasRoomFor (M.counted m.old) 0 (ahead lens.now self.old) }
-        ensures on { OnOk result (GoesOn lens.now signatures.now self.old self.new) }
+        ensures on { OnOk result
+            (GoesOn lens.now signatures.now signatures.now self.old self.new) }
         ensures visits { OnOk result ((M.counted m.new).visits + ahead lens.now self.new
             ≡ (M.counted m.old).visits + ahead lens.now self.old) }
         ensures steps { IfOk result (MakesProgress self.old self.new) }
@@ -138,8 +136,8 @@ impl DepthFirstSearch {
         requires walks { SearchInvariant lens.now signatures.old self.old }
         requires some { 0 < length self.old.frames }
         requires read { HasRead self.old }
-        ensures on { OnOk result (GoesOn lens.now signatures.new self.old self.new) }
-        ensures grow { OnOk result (Grow signatures.old signatures.new) }
+        ensures on { OnOk result
+            (GoesOn lens.now signatures.old signatures.new self.old self.new) }
         ensures ahead { OnOk result (ahead lens.now self.new ≡ ahead lens.now self.old) }
         ensures back { OnOk result (steps self.new < steps self.old) }
     {

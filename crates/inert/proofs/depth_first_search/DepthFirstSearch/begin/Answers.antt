@@ -8,7 +8,6 @@ use Rattle.inert.specs.Search.{Completed, unread}
 use Rattle.inert.proofs.parts.Tops.{walk_of}
 use Rattle.inert.specs.SearchMoves.{IsUnionOfItems}
 use Rattle.inert.proofs.invariant.Resting.{within}
-use Rattle.signatures.proofs.CallerLemmas.{Grow-same}
 use Rattle.inert.proofs.moves.Beginning.{begins, takes_framed, takes_bare, begun_ends}
 use Rattle.inert.proofs.depth_first_search.DepthFirstSearch.begin.Given.{Over}
 use Rattle.inert.proofs.depth_first_search.DepthFirstSearch.begin.Goals as goal
@@ -48,7 +47,7 @@ returns-then-leads_on g c = let i = c.loop-k.invariant in
     c.step-step.result c.in_ok-handle_step.field-0 (search rules)
     (rw (c.in_ok-push_state.ensures, i.same) at c.in_ok-handle_step.ensures) in
     let one = price_one_more c.args.lens.now.visited _ _ i.begun.forward in
-    grind (arith, common_steps, Grow-same c.args.signatures.now, went, i.cost, c.step-step.ensures.visit, one)
+    grind (arith, common_steps, went, i.cost, c.step-step.ensures.visit, one)
 
 pub returns-in_err-push_state-clause-cost : goal.returns-in_err-push_state-clause-cost
 returns-in_err-push_state-clause-cost g c = spent g (goal.at.returns-in_err-push_state-clause-cost g c).After-step-step
@@ -74,4 +73,4 @@ returns g c = let i = c.loop-k.invariant in
     search rules in
     let ended = begun_ends c.invariants.ensures.laws c.invariants.ensures.lts i.same i.begun c.loop-k-test.false listed
     (within c.requires.rests c.requires.state.0) is in
-    grind (arith, common_steps, ended, listed.grow, i.cost)
+    grind (arith, common_steps, ended, i.cost)

@@ -2,7 +2,7 @@ use Rattle.std.proofs.Common.{rules, ◌∙◌, drop, ap, subst, arith}
 use Rattle.std.proofs.lemmas.Grind.{elements}
 use Rattle.std.proofs.lemmas.List.{take_all, length-drop}
 use Rattle.inert.specs.SearchMoves.{IsUnionOfItems}
-use Rattle.inert.proofs.parts.Stages.{open_inside}
+use Rattle.inert.proofs.invariant.Standing.{open_inside}
 use Rattle.inert.proofs.depth_first_search.DepthFirstSearch.close.Goals as goal
 
 pub loop-p-init : goal.loop-p-init

@@ -37,4 +37,4 @@ returns-in_ok-close g c = let d = (goal.at.returns-in_ok-close g c).After-pop in
     let r = c.requires in
     let done = closed c.invariants.ensures.laws c.invariants.ensures.lts r.walks r.some r.read (ap (λ x. x.height)
     (sym (root g d)) ∙ c.if-root-frame.true ∙ ap (λ x. x.height) c.top_frame-frame.ensures) closes in
-    grind (arith, common_steps, done, closes.listed.grow, ap length closes.frames, popped_size r.walks, r.some)
+    grind (arith, common_steps, done, ap length closes.frames, popped_size r.walks, r.some)
