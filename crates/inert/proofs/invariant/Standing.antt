@@ -78,8 +78,7 @@ module _ {u : Under} {signatures : List (List (ℕ × ℕ))} {w : Search} (walks
 -- contains the signature ID k. Suppose also that t shares a block with some state on the stack. Then k is the ID of the
 -- signature of t.
 pub list_signed : {u : Under} {signatures : List (List (ℕ × ℕ))} {w : Search} → SearchInvariant u signatures w
-    → (p t k : ℕ)
-    → p < length w.stack → slice_index w.stack p < u.l.states
+    → (p t k : ℕ) → p < length w.stack → slice_index w.stack p < u.l.states
     → slice_index u.blocks t ≡ slice_index u.blocks (slice_index w.stack p) → stage_at w.stages t ≡ Completed k
     → IsSigned u t signatures k
 list_signed {w = w} walks p t k low inside same is =

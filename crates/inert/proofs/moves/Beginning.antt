@@ -45,8 +45,7 @@ pub record Begins (u : Under) (before signatures : List (List (ℕ × ℕ))) (ol
 
 -- The condition `Begins` holds at the start of a search, when no transition of the first state s was read.
 pub begins : {u : Under} {signatures : List (List (ℕ × ℕ))} {w : Search} {s start end : ℕ} → Laws
-    → IsAtRest u signatures w
-    → s < u.l.states → stage_at w.stages s ≡ Unvisited → IsRow u.l.places s start end
+    → IsAtRest u signatures w → s < u.l.states → stage_at w.stages s ≡ Unvisited → IsRow u.l.places s start end
     → Begins u signatures signatures w s start start (framed s start end w.stages w.items)
 begins {u = u} {signatures = signatures} {w = w} {s = s} {start = start} {end = end} laws rests inside none row =
     let low = within rests inside in

@@ -57,8 +57,7 @@ module _ {u : Under} {signatures : List (List (ℕ × ℕ))} {w : Search} (walks
 
     pub SearchInvariant-collect : 0 < length w.frames → IsInternedItem signatures x
         → ((z : ℕ × ℕ) → GivesPair signatures x z
-        → HasPair Branching u.l u.blocks (slice_index w.stack (here w)) z.0 z.1)
-        → SearchInvariant u signatures With
+        → HasPair Branching u.l u.blocks (slice_index w.stack (here w)) z.0 z.1) → SearchInvariant u signatures With
     SearchInvariant-collect some there sound =
         let roots = roots_kept walks.roots w.frames With.items (λ i d h.
         grind (arith, walks.roots.each i d h, length_push w.items x)) in
@@ -258,15 +257,8 @@ module _ {u : Under} {signatures : List (List (ℕ × ℕ))} {w : Search} (walks
       entered_on =
           let read = unread-set w.stages t (OnStack n) refl within unseen (remaining u) in
           let row = row_left u.visited u.l.places t start end row in
-          let push = sum_by_push (λ y. price_between u.visited y.next y.end) w.frames NewFrame in (
-            record {
-              walks = SearchInvariant-enter;
-              grow = grow;
-              seen = grind (arith, stage_of, unseen);
-              signs = λ s k is. inl (grind (arith, stage_of s, is));
-            },
-            omega (arith, read, row, push),
-          )
+          let push = sum_by_push (λ y. price_between u.visited y.next y.end) w.frames NewFrame in
+          (grind (arith, SearchInvariant-enter, grow, stage_of, unseen), omega (arith, read, row, push))
 
   -- A frame has the outgoing transitions of a state that are still to be read. These lemmas assume that the transition
   -- at the place (index) m is the first transition of the frame i, and that this transition is marked as read.

@@ -165,8 +165,7 @@ pub record Marked (u : Under) (signatures : List (List (ℕ × ℕ))) (old new :
     pub nearer : IsTrue enters → steps new < steps old
 
 pub reads_none : {u : Under} {signatures : List (List (ℕ × ℕ))} {w : Search} → SearchInvariant u signatures w
-    → 0 < length w.frames
-    → Reads u signatures w w (top w.frames).next
+    → 0 < length w.frames → Reads u signatures w w (top w.frames).next
 reads_none {u = u} {w = w} walks some =
     let on = stays_on {old = w} walks refl in grind (arith, on, some, price_none u.visited)
 

@@ -1,17 +1,10 @@
--- Helper definitions for the proofs about the search. They build a search from its parts, and return parts of a search,
--- such as the last root, which is the first state of the component at the top of the stack.
+-- Helper definitions for the proofs about the search. They return parts of a search, such as the last root, which is the
+-- first state of the component at the top of the stack.
 use Rattle.std.proofs.Common.{ℕ, ◌-◌, ◌<◌, ◌≤◌, List, length, take, get_or, arith}
 use Rattle.std.specs.List.{All, AllPairs}
 use Rattle.std.proofs.lemmas.Grind.{elements}
 use Rattle.std.proofs.lemmas.List.Elements.{All-from_get_or}
-use Rattle.inert.specs.Search.{Search, VisitState, Frame, Root, Item, top, root_at}
-
--- A frame has the outgoing transitions of a state on the stack that are still to be read. A root is the first state of
--- a component on the stack. An item is a pair (label ID, block) or a signature ID. Returns the search with the given
--- status of each state, stack, frames, roots, and items.
-abbrev pub walk_of : List VisitState → List ℕ → List Frame → List Root → List Item → Search
-walk_of stages stack frames roots items =
-    record { stages = stages; stack = stack; frames = frames; roots = roots; items = items }
+use Rattle.inert.specs.Search.{Search, Frame, Root, top, root_at}
 
 -- A frame has the outgoing transitions of a state on the stack that are still to be read. A root is the first state of
 -- a component on the stack. These are the default values of frames and roots, which are returned for an index outside a

@@ -1,8 +1,7 @@
-use Rattle.std.proofs.Common.{◌≡◌, ◌∙◌, length, sym, subst, arith}
+use Rattle.std.proofs.Common.{◌≡◌, ◌∙◌, sym, arith}
 use Rattle.std.proofs.Math.Path.{ap₂}
-use Rattle.lts.specs.Meter.{Costs}
 use Rattle.inert.specs.Signed.{CachesBeside}
-use Rattle.inert.specs.Steps.{under, remaining}
+use Rattle.inert.specs.Steps.{under}
 use Rattle.inert.specs.Search.{cached}
 use Rattle.inert.proofs.invariant.Resting.{woken_rests}
 use Rattle.inert.proofs.signatures.Idle.{over_again, signs_active}
@@ -32,9 +31,7 @@ invariant_of-self g c = let done = c.in-Ok.ensures in
 
 pub returns-in-Err-clause-visits : goal.returns-in-Err-clause-visits
 returns-in-Err-clause-visits g c =
-    subst (λ u. Costs (g.M.Meter.counted c.args.m.now) (g.M.Meter.counted c.search_all.new.m) 0 0
-    (length (remaining u)))
-    (is g (goal.at.returns-in-Err-clause-visits g c).After-new-lens) c.search_all.ensures.visits
+    rw (is g (goal.at.returns-in-Err-clause-visits g c).After-new-lens) at c.search_all.ensures.visits
 
 pub returns-in-Err-clause-others : goal.returns-in-Err-clause-others
 returns-in-Err-clause-others g c s h = let others = c.copy_cached_ids.ensures.others s in
