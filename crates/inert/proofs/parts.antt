@@ -1,4 +1,2 @@
 pub mod Tops
-pub mod Stages
-pub mod Rising
 pub mod Counting

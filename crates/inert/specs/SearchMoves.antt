@@ -9,11 +9,10 @@ use Rattle.std.specs.List.{Contains}
 use Rattle.std.specs.List.Sorted.{IsStrictlySortedBy}
 use Rattle.lts.specs.Lts.{Triple, IsRow}
 use Rattle.signatures.specs.Lists.{list_at, pair_cmp, Grow}
-use Rattle.inert.specs.Search.{Search, nothing, stage_at, top, root_at, GivesPair, IsSigned, AreCacheable}
+use Rattle.inert.specs.Search.{Search, nothing, stage_at, top, root_at, GivesPair, IsSigned}
 use Rattle.inert.specs.Search.{SearchInvariant, VisitState}
 use Rattle.inert.specs.Search.{Unvisited, OnStack, Completed, Root, Item, Pair, Interned, unseen, unread, rest}
 use Rattle.inert.specs.Search.{KeepsVisited}
-use Rattle.inert.specs.Search.{HasVisitStates}
 use Rattle.inert.specs.Steps.{Under, remaining}
 use Rattle.inert.specs.declared.lens.Step.{Step}
 pub use Rattle.inert.specs.declared.lens.Step.TheVariants.{Inert, Shows}
@@ -134,11 +133,13 @@ abbrev pub SignsMore : Under → List (List (ℕ × ℕ)) → List VisitState �
 SignsMore u signatures old new =
     (s k : ℕ) → stage_at new s ≡ Completed k → (stage_at old s ≡ Completed k) ⊎ IsSigned u s signatures k
 
--- `GoesOn` compares two points `old` and `new` of the search. It holds if `new` satisfies the invariant of the search
--- (`SearchInvariant`), if each state that is visited in `old` is also visited in `new`, and if `SignsMore` holds for
--- the statuses of the states.
-pub record GoesOn (u : Under) (signatures : List (List (ℕ × ℕ))) (old new : Search) : Type 0 where
+-- `GoesOn` compares two points `old` and `new` of the search. The interned signatures are `before` at the first point
+-- and `signatures` at the second point. It holds if `new` satisfies the invariant of the search (`SearchInvariant`), if
+-- each signature of `before` has the same ID in `signatures`, if each state that is visited in `old` is also visited in
+-- `new`, and if `SignsMore` holds for the statuses of the states.
+pub record GoesOn (u : Under) (before signatures : List (List (ℕ × ℕ))) (old new : Search) : Type 0 where
   pub walks : SearchInvariant u signatures new
+  pub grow : Grow before signatures
   pub seen : KeepsVisited old.stages new.stages
   pub signs : SignsMore u signatures old.stages new.stages
 
@@ -150,11 +151,14 @@ abbrev pub MakesProgress : Search → Search → Bool → Type 0
 MakesProgress old new enters = (IsTrue enters → steps new < steps old)
     × (¬ IsTrue enters → HasRead new × (0 < length new.frames) × (steps new ≤ steps old))
 
--- `IsAtRest` holds if no search is in progress: the stack is empty, and no state has the status `OnStack`. The cached
--- signature of each completed state must be its signature, unless all states in the block of the state are completed
--- (`AreCacheable`).
+-- `IsAtRest` holds if the search satisfies its invariant (`SearchInvariant`), and no search is in progress: the stack
+-- and all other lists of the search are empty.
 pub record IsAtRest (u : Under) (signatures : List (List (ℕ × ℕ))) (w : Search) : Type 0 where
   pub empty : w ≡ nothing w.stages
-  pub sizes : HasVisitStates u.l.states (length signatures) 0 w.stages
-  pub shut : (s p : ℕ) → ¬ (stage_at w.stages s ≡ OnStack p)
-  pub signed : AreCacheable u signatures w.stages
+  pub walks : SearchInvariant u signatures w
+
+-- `ReturnsToRest` holds if the search has gone on from `old` to `new` (`GoesOn`), and no search is in progress at `new`:
+-- the stack and all other lists of the search are empty.
+pub record ReturnsToRest (u : Under) (before signatures : List (List (ℕ × ℕ))) (old new : Search) : Type 0 where
+  pub empty : new ≡ nothing new.stages
+  pub on : GoesOn u before signatures old new

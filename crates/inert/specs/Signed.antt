@@ -7,7 +7,7 @@ use Rattle.theory.specs.declared.relation.Relation.TheVariants.{Branching}
 use Rattle.theory.specs.Blocks.{Signature}
 use Rattle.lts.specs.Labels.{text_of}
 use Rattle.lts.specs.Lts.{Grouped, Triple, label_of, target_of, system_of}
-use Rattle.signatures.specs.Lists.{pair_cmp, list_at}
+use Rattle.signatures.specs.Lists.{pair_cmp, list_at, AreIds, Grow}
 use Rattle.partition.specs.Blocks.{IsMember}
 
 -- `HasPair` holds if the signature of the state s modulo the relation `rel` contains the pair (a, b), where a is the
@@ -26,14 +26,34 @@ pub record IsSignature (rel : Relation) (l : Grouped) (blocks : List ℕ) (s : �
 abbrev pub pair_under : List ℕ → Triple → ℕ × ℕ
 pair_under blocks e = (label_of e, slice_index blocks (target_of e))
 
--- The active states are the states that the round processes. `AreCachedBeside` holds if the cached signature ID is
--- correct for each state that is not active but shares a block with an active state.
-abbrev pub AreCachedBeside : Grouped → List ℕ → List ℕ → List (List (ℕ × ℕ)) → List ℕ → Type 0
-AreCachedBeside l blocks active signatures cached =
-    (s t : ℕ) → s < l.states → t < l.states → slice_index blocks s ≡ slice_index blocks t → IsMember active t →
-    IsMember active s ⊎ IsSignature Branching l blocks s (list_at signatures (slice_index cached s))
+-- The active states are the states that the round processes. `CachesBeside` holds if `cached` has the ID of an interned
+-- signature for each state. For each state that is not active but shares a block with an active state, this signature
+-- must be the signature of the state.
+pub record CachesBeside (l : Grouped) (blocks active : List ℕ) (signatures : List (List (ℕ × ℕ))) (cached : List ℕ) :
+    Type 0 where
+  pub states : length cached ≡ l.states
+  pub each : AreIds signatures cached
+  pub beside : (s t : ℕ) → s < l.states → t < l.states → slice_index blocks s ≡ slice_index blocks t → IsMember active t
+      → IsMember active s ⊎ IsSignature Branching l blocks s (list_at signatures (slice_index cached s))
 
 -- `IsIdIfChanged` holds if `shown` is the ID that is used to split the block of a state whose signature ID was `old`
 -- and is now `new`. If `old` equals `new`, then `shown` is 0. Otherwise, `shown` is `new`.
 abbrev pub IsIdIfChanged : ℕ → ℕ → ℕ → Type 0
 IsIdIfChanged old new shown = ((old ≡ new) × (shown ≡ 0)) ⊎ (¬ (old ≡ new) × (shown ≡ new))
+
+-- `SignsActive` holds if the round has computed the signatures of its active states, which are the states that it
+-- processes. The interned signatures were `before` and are now `signatures`, and the cached IDs of all states were `old`
+-- and are now `cached`. The signature of each active state must be interned, and its ID must be cached. The cached ID of
+-- every other state must be the same as before. For each active state, `signature_ids` must have the ID that is used to
+-- split its block (`IsIdIfChanged`).
+pub record SignsActive (l : Grouped) (blocks active : List ℕ) (before signatures : List (List (ℕ × ℕ)))
+    (old cached signature_ids : List ℕ) : Type 0 where
+  pub grow : Grow before signatures
+  pub states : length cached ≡ l.states
+  pub each : AreIds signatures cached
+  pub signed : (s : ℕ) → IsMember active s
+      → IsSignature Branching l blocks s (list_at signatures (slice_index cached s))
+  pub still : (s : ℕ) → IsMember active s ⊎ (slice_index cached s ≡ slice_index old s)
+  pub ids : AreIds signatures signature_ids
+  pub changed : (s : ℕ) → IsMember active s
+      → IsIdIfChanged (slice_index old s) (slice_index cached s) (slice_index signature_ids s)

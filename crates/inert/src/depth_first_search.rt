@@ -219,25 +219,21 @@ impl DepthFirstSearch {
         match step {
             Step::Shows(label, block) => {
                 self.items.push(CompactItem::new(Item::Pair(label, block)))?;
-                Ok(false)
             }
             Step::Inert(t) => match self.stages[t as usize] {
                 VisitState::Unvisited => {
                     let (next, end) = lens.row(t);
                     let items = self.items.len();
                     self.push_state(t, next, end, items)?;
-                    Ok(true)
+                    return Ok(true);
                 }
-                VisitState::OnStack(height) => {
-                    cut(&mut self.roots, height);
-                    Ok(false)
-                }
+                VisitState::OnStack(height) => cut(&mut self.roots, height),
                 VisitState::Completed(id) => {
                     self.items.push(CompactItem::new(Item::Interned(id)))?;
-                    Ok(false)
                 }
             },
         }
+        Ok(false)
     }
 
     /// A frame has the outgoing transitions of a state on the stack that are still to be read. Returns the last frame,

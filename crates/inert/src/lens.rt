@@ -3,8 +3,8 @@
 ghost use Rattle.std.specs.Prelude.{◌≡◌, ◌<◌, length};
 ghost use Rattle.lts.specs.Lts.{place_at, IsLts, IsRow};
 ghost use Rattle.lts.specs.Meter.{HasRoomFor, Costs};
-ghost use Rattle.lts.specs.Visited.{AreVisited, price};
-ghost use Rattle.inert.specs.Steps.{under, given, IsStep};
+ghost use Rattle.lts.specs.Visited.{price};
+ghost use Rattle.inert.specs.Steps.{under, given, FitsSystem, IsStep};
 ghost use Rattle.inert.specs.Search.{Laws};
 
 use lts::{Lts, Meter, Visited};
@@ -46,8 +46,7 @@ impl<'a, M: Meter> Lens<'a, M> {
     /// Returns the view of the system `l`, where `blocks` has the block of each state. If the place (index) of a
     /// transition is in `visited`, the meter does not count the reads of this transition.
     pub fn new(l: &'a Lts<M>, blocks: &'a [u32], visited: Option<&'a Visited>) -> Lens<'a, M>
-        requires size { length blocks.now ≡ l.now.states }
-        requires visited { AreVisited l.now.places (given visited) }
+        requires { FitsSystem (under l.now blocks.now (given visited)) }
         ensures { result ≡ under l.now blocks.now (given visited.entry) }
     {
         Lens {

@@ -1,11 +1,11 @@
 //! The moves of the depth-first search along inert transitions. The search reads the row of each state (its outgoing
 //! transitions) once.
-ghost use Rattle.std.specs.Prelude.{◌≡◌, ◌+◌, ◌-◌, ◌<◌, ◌≤◌, length, IfOk, OnOk};
+ghost use Rattle.std.specs.Prelude.{◌≡◌, ◌+◌, ◌-◌, ◌<◌, ◌≤◌, length, take, drop, IfOk, OnOk};
 ghost use Rattle.lts.specs.Meter.{HasRoomFor, Costs};
-ghost use Rattle.signatures.specs.Lists.{Grow};
-ghost use Rattle.inert.specs.Search.{stage_at, unread, KeepsVisited, IsFinished, AreOpen, AreInternedItems};
+ghost use Rattle.inert.specs.Search.{stage_at, unread, IsFinished, AreOpen, AreInternedItems};
 ghost use Rattle.inert.specs.Search.{SearchInvariant, Unvisited};
-ghost use Rattle.inert.specs.SearchMoves.{Closes, ahead, steps, HasRead, SignsMore, GoesOn, MakesProgress, IsAtRest};
+ghost use Rattle.inert.specs.SearchMoves.{Closes, ahead, steps, HasRead, GoesOn, MakesProgress, IsAtRest};
+ghost use Rattle.inert.specs.SearchMoves.{ReturnsToRest, IsUnionOfItems};
 ghost use Rattle.inert.specs.Steps.{remaining};
 
 use crate::component::intern_items;
@@ -29,12 +29,9 @@ impl DepthFirstSearch {
         requires rests { IsAtRest lens.now signatures.old self.old }
         requires room { HasRoomFor (M.counted m.old) 0
             (unread (remaining lens.now) self.old.stages) }
-        ensures rests { OnOk result (IsAtRest lens.now signatures.new self.new) }
-        ensures grow { OnOk result (Grow signatures.old signatures.new) }
-        ensures seen { OnOk result (KeepsVisited self.old.stages self.new.stages) }
+        ensures rests { OnOk result
+            (ReturnsToRest lens.now signatures.old signatures.new self.old self.new) }
         ensures finished { OnOk result (IsFinished self.new.stages s) }
-        ensures signs { OnOk result (SignsMore lens.now signatures.new self.old.stages
-            self.new.stages) }
         ensures visits { OnOk result
             ((M.counted m.new).visits + unread (remaining lens.now) self.new.stages
             ≡ (M.counted m.old).visits + unread (remaining lens.now) self.old.stages) }
@@ -66,8 +63,8 @@ impl DepthFirstSearch {
         requires rests { IsAtRest lens.now signatures.old self.old }
         requires room { HasRoomFor (M.counted m.old) 0
             (unread (remaining lens.now) self.old.stages) }
-        ensures on { OnOk result (GoesOn lens.now signatures.new self.old self.new) }
-        ensures grow { OnOk result (Grow signatures.old signatures.new) }
+        ensures on { OnOk result
+            (GoesOn lens.now signatures.old signatures.new self.old self.new) }
         ensures found { OnOk result (¬ (stage_at self.new.stages s ≡ Unvisited)) }
         ensures visits { OnOk result ((M.counted m.new).visits + ahead lens.now self.new
             ≡ (M.counted m.old).visits + unread (remaining lens.now) self.old.stages) }
@@ -86,13 +83,7 @@ impl DepthFirstSearch {
             }
             self.handle_step(lens, step)?;
         }
-        let id = intern_items(
-            &self.items,
-            signatures,
-            &mut self.signature_ids,
-            &mut self.pairs,
-        )?;
-        self.items.clear();
+        let id = self.intern_from(0, signatures)?;
         self.stages[s as usize] = VisitState::Completed(id);
         Ok(())
     }
@@ -110,7 +101,8 @@ impl DepthFirstSearch {
         requires walks { SearchInvariant lens.now signatures.now self.old }
         requires some { 0 < length self.old.frames }
         requires room { HasRoomFor (M.counted m.old) 0 (ahead lens.now self.old) }
-        ensures on { OnOk result (GoesOn lens.now signatures.now self.old self.new) }
+        ensures on { OnOk result
+            (GoesOn lens.now signatures.now signatures.now self.old self.new) }
         ensures visits { OnOk result ((M.counted m.new).visits + ahead lens.now self.new
             ≡ (M.counted m.old).visits + ahead lens.now self.old) }
         ensures steps { IfOk result (MakesProgress self.old self.new) }
@@ -138,8 +130,8 @@ impl DepthFirstSearch {
         requires walks { SearchInvariant lens.now signatures.old self.old }
         requires some { 0 < length self.old.frames }
         requires read { HasRead self.old }
-        ensures on { OnOk result (GoesOn lens.now signatures.new self.old self.new) }
-        ensures grow { OnOk result (Grow signatures.old signatures.new) }
+        ensures on { OnOk result
+            (GoesOn lens.now signatures.old signatures.new self.old self.new) }
         ensures ahead { OnOk result (ahead lens.now self.new ≡ ahead lens.now self.old) }
         ensures back { OnOk result (steps self.new < steps self.old) }
     {
@@ -163,22 +155,38 @@ impl DepthFirstSearch {
         requires there { AreInternedItems signatures.old self.old.items }
         ensures { OnOk result (Closes root signatures.old signatures.new self.old self.new) }
     {
-        let id = intern_items(
-            &self.items[root.items..],
-            signatures,
-            &mut self.signature_ids,
-            &mut self.pairs,
-        )?;
+        let id = self.intern_from(root.items, signatures)?;
         let (stages, stack) = (&mut self.stages, &self.stack);
         for p in root.height as usize..stack.len() {
             stages[stack[p] as usize] = VisitState::Completed(id);
         }
         self.stack.truncate(root.height as usize);
         self.roots.pop();
-        self.items.truncate(root.items);
         if !self.frames.is_empty() {
             self.items.push(CompactItem::new(Item::Interned(id)))?;
         }
         Ok(())
+    }
+
+    /// An item is a pair (label ID, target block), or the ID of a signature, which represents all pairs of this
+    /// signature. The function interns the signature that consists of all pairs that the items from the index `first`
+    /// on represent, and removes these items. Returns the ID of the interned signature.
+    #[inline(always)]
+    fn intern_from(&mut self, first: usize, signatures: &mut Interner) -> Result<u32, Memory>
+        requires first { first ≤ length self.old.items }
+        requires there { AreInternedItems signatures.old self.old.items }
+        ensures union { IfOk result
+            (IsUnionOfItems (drop first self.old.items) signatures.old signatures.new) }
+        ensures others { OnOk result
+            (self.new ≡ record self.old { items = take first self.old.items }) }
+    {
+        let id = intern_items(
+            &self.items[first..],
+            signatures,
+            &mut self.signature_ids,
+            &mut self.pairs,
+        )?;
+        self.items.truncate(first);
+        Ok(id)
     }
 }

@@ -1,14 +1,12 @@
 //! The public interface of the search: computes the branching signatures of all states that a round processes.
 ghost use Rattle.std.specs.Prelude.{◌≡◌, ◌⊎◌, ℕ, ◌<◌, length, slice_index, OnOk};
-ghost use Rattle.theory.specs.declared.relation.Relation.TheVariants.{Branching};
 ghost use Rattle.lts.specs.Meter.{HasRoomFor, Costs};
-ghost use Rattle.lts.specs.Visited.{AreVisited, remaining_of};
-ghost use Rattle.signatures.specs.Lists.{list_at, AreIds, Grow};
+ghost use Rattle.lts.specs.Visited.{remaining_of};
 ghost use Rattle.partition.specs.Blocks.{IsMember, AreActive, InactiveHaveNone};
-ghost use Rattle.inert.specs.Signed.{IsSignature, AreCachedBeside, IsIdIfChanged};
-ghost use Rattle.inert.specs.Search.{stage_at, id_of, IsFinished, HasEnded, KeepsVisited};
-ghost use Rattle.inert.specs.SearchMoves.{IsAtRest, SignsMore};
-ghost use Rattle.inert.specs.Steps.{remaining, given};
+ghost use Rattle.inert.specs.Signed.{CachesBeside, SignsActive, IsIdIfChanged};
+ghost use Rattle.inert.specs.Search.{stage_at, id_of, IsFinished, HasEnded};
+ghost use Rattle.inert.specs.SearchMoves.{IsAtRest, ReturnsToRest};
+ghost use Rattle.inert.specs.Steps.{under, remaining, given, FitsSystem};
 
 use crate::depth_first_search::{DepthFirstSearch, VisitState};
 use crate::lens::Lens;
@@ -82,29 +80,17 @@ impl Signer {
         signature_ids: &mut [u32],
         m: &mut M,
     ) -> Result<(), Memory>
-        requires blocks { length blocks.now.block_ids ≡ l.now.states }
-        requires cached { AreCachedBeside l.now blocks.now.block_ids blocks.now.active
+        requires fits { FitsSystem (under l.now blocks.now.block_ids visited.now) }
+        requires cached { CachesBeside l.now blocks.now.block_ids blocks.now.active
             signatures.old self.old }
-        requires signatures { (length self.old ≡ l.now.states) × AreIds signatures.old self.old }
         requires signature_ids { (length signature_ids.old ≡ l.now.states)
             × InactiveHaveNone blocks.now.active signature_ids.old }
-        requires visited { AreVisited l.now.places visited.now }
         requires room { HasRoomFor (M.counted m.old) 0
             (length (remaining_of visited.now l.now.places)) }
 
         // On success
-        ensures signed { OnOk result ((s : ℕ) → IsMember blocks.now.active s →
-            IsSignature Branching l.now blocks.now.block_ids s
-            (list_at signatures.new (slice_index self.new s))) }
-        ensures changed { OnOk result ((s : ℕ) → IsMember blocks.now.active s →
-            IsIdIfChanged (slice_index self.old s) (slice_index self.new s)
-            (slice_index signature_ids.new s)) }
-        ensures still { OnOk result ((s : ℕ) → IsMember blocks.now.active s
-            ⊎ (slice_index self.new s ≡ slice_index self.old s)) }
-        ensures signatures { OnOk result ((length self.new ≡ l.now.states)
-            × AreIds signatures.new self.new) }
-        ensures signature_ids { OnOk result (AreIds signatures.new signature_ids.new) }
-        ensures grow { OnOk result (Grow signatures.old signatures.new) }
+        ensures signs { OnOk result (SignsActive l.now blocks.now.block_ids blocks.now.active
+            signatures.old signatures.new self.old self.new signature_ids.new) }
 
         // Always
         ensures visits { Costs (M.counted m.old) (M.counted m.new) 0 0
@@ -171,13 +157,10 @@ fn search_all<M: Meter>(
     requires active { AreActive lens.now.l.states active.now }
     requires rests { IsAtRest lens.now signatures.old search.old }
     requires room { HasRoomFor (M.counted m.old) 0 (length (remaining lens.now)) }
-    ensures rests { OnOk result (IsAtRest lens.now signatures.new search.new) }
+    ensures rests { OnOk result
+        (ReturnsToRest lens.now signatures.old signatures.new search.old search.new) }
     ensures all { OnOk result ((i : ℕ) → i < length active.now →
         IsFinished search.new.stages (slice_index active.now i)) }
-    ensures signs { OnOk result (SignsMore lens.now signatures.new search.old.stages
-        search.new.stages) }
-    ensures seen { OnOk result (KeepsVisited search.old.stages search.new.stages) }
-    ensures grow { OnOk result (Grow signatures.old signatures.new) }
     ensures visits { Costs (M.counted m.old) (M.counted m.new) 0 0 (length (remaining lens.now)) }
 {
     lens.invariants();

@@ -16,7 +16,7 @@ use Rattle.signatures.specs.Lists.{AreLists, AreIds, Grow, list_at, pair_cmp}
 use Rattle.signatures.proofs.CallerLemmas.{rising_none}
 use Rattle.partition.specs.Splitting.{IsSingleton}
 use Rattle.partition.specs.Blocks.{RoundBlocks, AreActive, IsMember, InactiveHaveNone}
-use Rattle.inert.specs.Signed.{AreCachedBeside, IsSignature, IsIdIfChanged}
+use Rattle.inert.specs.Signed.{CachesBeside, SignsActive, IsSignature}
 use Rattle.refine_core.specs.Signatures.{Signed, HasNoSignatures, list_of}
 use Rattle.refine_core.specs.IndexState.{IsReadyToSign, AreAllActive, OthersKeepSignatures, SignsEach}
 use Rattle.refine_core.specs.Shown.{Was, IsAsBefore, IsSplitSignature, WasSplit}
@@ -97,27 +97,26 @@ module _ (l : Grouped) (labelled : Labelled l) (sys : IsSystem (system_of l)) (o
 
   -- The active states are the states that the round processes. If a state shares a block with an active state, then it
   -- is active too, or the cache has the ID of its present signature.
-  pub cached_beside : AreCachedBeside l of active r.signatures r.cached
-  cached_beside s t hs ht same one = grind (arith, common_steps, active_or_cached s hs)
+  pub cached_beside : CachesBeside l of active r.signatures r.cached
+  cached_beside = let keeps = ready.cached refl in record {
+    states = keeps.states;
+    each = keeps.signature_ids;
+    beside = λ s t hs ht same one. grind (arith, common_steps, active_or_cached s hs);
+  }
 
   -- These lemmas assume that the signatures of the active states (the states that the round processes) have been
   -- computed. For each state, `cached` has the ID of the signature that is cached for the next round. For each state,
   -- `signature_ids` has the ID of the split signature, which is empty if the signature of the state has not changed
   -- since the last round, and otherwise is the new signature.
   module _ (signatures : List (List (ℕ × ℕ))) (cached signature_ids : List ℕ) (are : AreLists signatures)
-      (grow : Grow r.signatures signatures)
-      (states : length cached ≡ l.states) (each : AreIds signatures cached) (rises : AreActive l.states active)
-      (have : length signature_ids ≡ l.states) (none : InactiveHaveNone active signature_ids)
-      (signed : (s : ℕ) → IsMember active s → IsSignature Branching l of s (list_of signatures cached s))
-      (changed : (s : ℕ) → IsMember active s
-      → IsIdIfChanged (slice_index r.cached s) (slice_index cached s) (slice_index signature_ids s))
-      (still : (s : ℕ) → IsMember active s ⊎ (slice_index cached s ≡ slice_index r.cached s)) where
+      (signs : SignsActive l of active r.signatures signatures r.cached cached signature_ids)
+      (have : length signature_ids ≡ l.states) (none : InactiveHaveNone active signature_ids) where
     within : (s : ℕ) → s < l.states → slice_index r.cached s < length r.signatures
     within s h = let keeps = ready.cached refl in keeps.signature_ids s 0 (omega (arith, h, keeps.states))
 
     -- A signature that was cached before the round keeps its ID when the signatures of the round are interned.
     same_list : (s : ℕ) → s < l.states → list_at signatures (slice_index r.cached s) ≡ list_of r.signatures r.cached s
-    same_list s h = grow.same (slice_index r.cached s) (within s h)
+    same_list s h = signs.grow.same (slice_index r.cached s) (within s h)
 
     -- In the following lemmas, s is an active state, which is a state that the round processes, and the cache has the
     -- signature of s from the last round.
@@ -129,31 +128,31 @@ module _ (l : Grouped) (labelled : Labelled l) (sys : IsSystem (system_of l)) (o
       unchanged =
           let told = equal_represented l _ _ (list_of signatures cached s) (list_of r.signatures r.cached s)
           (label_id_of l labelled Branching (Some of) s) (label_id_of l labelled Branching old s)
-          ((signed s one).ascending, (signed s one).exactly) was in
+          ((signs.signed s one).ascending, (signs.signed s one).exactly) was in
           let apart = are.different (slice_index r.cached s) (slice_index cached s) in
-          grind (arith, told, same_list s h, apart, within s h, grow.longer, each s 0, states)
+          grind (arith, told, same_list s h, apart, within s h, signs.grow.longer, signs.each s 0, signs.states)
 
       -- If the new signature of s is empty, then the signature of s was empty in the last round, too.
       empty_still : list_of signatures cached s ≡ [] → IsAsBefore Branching l old of s
       empty_still nil a b =
           let shows : HasEmptySignature (system_of l) (slice_index of) s = λ a b can.
           let (k, number) = label_id_of l labelled Branching (Some of) s a b can in
-          let c = ((signed s one).exactly k b).1 (number.below, rw number.text can) in
+          let c = ((signs.signed s one).exactly k b).1 (number.below, rw number.text can) in
           omega (arith, (rw nil at c).1) in
           (λ can. absurd (shows a b can), λ can. absurd (empty_was l sys old of ready.split s h shows a b can))
 
       -- The split signature of a state is empty if its signature has not changed since the last round, and otherwise it
       -- is the new signature. The list `signature_ids` has the ID of the split signature of s (`IsSplitSignature`).
       split_id : IsSplitSignature Branching l old of s (list_of signatures signature_ids s)
-      split_id = elim (changed s one) [
+      split_id = elim (signs.changed s one) [
         | inl (is, zero) ↦ inl (ap (list_at signatures) zero ∙ are.first, unchanged.0 is)
         | inr (other, now) ↦
-            rw now (inr (λ nil. other (unchanged.1 (empty_still nil)), λ is. other (unchanged.1 is), signed s one))
+            rw now (inr (λ nil. other (unchanged.1 (empty_still nil)), λ is. other (unchanged.1 is), signs.signed s one))
       ]
 
     -- For each state that is not in a singleton block, the new cached ID is the ID of the signature of this state.
     cached_now : (s : ℕ) → s < l.states → IsSingleton of s ⊎ IsSignature Branching l of s (list_of signatures cached s)
-    cached_now s h = grind (arith, common_steps, still s, active_or_cached s h, signed s, same_list s h)
+    cached_now s h = grind (arith, common_steps, signs.still s, active_or_cached s h, signs.signed s, same_list s h)
 
     -- The split signature of a state is empty if its signature has not changed since the last round, and otherwise it
     -- is the new signature. For each state outside singleton blocks, `signature_ids` has the ID of its split signature.
@@ -164,10 +163,10 @@ module _ (l : Grouped) (labelled : Labelled l) (sys : IsSystem (system_of l)) (o
       split = ready.split;
       each = λ s h. let given = λ (one : IsMember active s). ⊎_map (λ x. x) (split_id s h one) (keeps.each s h) in
           grind (arith, ready.others s h, none s, given, have, are.first);
-      first = λ none s one. grind (arith, common_steps, changed s one, signed s one, ready.empty refl none s);
+      first = λ none s one. grind (arith, common_steps, signs.changed s one, signs.signed s one, ready.empty refl none s);
       cached = λ branching. record {
-        states = states;
-        signature_ids = each;
+        states = signs.states;
+        signature_ids = signs.each;
         each = λ s h. ⊎_map (λ alone. alone) (λ is. (is.ascending, is.exactly)) (cached_now s h);
       };
     }

@@ -2,18 +2,17 @@
 -- not change the states below some index of the stack. Then the invariant still holds for these states after the move,
 -- even if the move interns more signatures.
 use Rattle.std.proofs.Common.{◌≡◌, ◌⊎◌, ◌↔◌, ℕ, ◌<◌, ◌≤◌, List, length, slice_index, inl, inr, arith, rules, get_or}
-use Rattle.std.proofs.lemmas.Grind.{common_steps}
 use Rattle.std.specs.List.{All}
 use Rattle.lts.specs.Lts.{Triple, source_of, place_at}
 use Rattle.signatures.specs.Lists.{Grow}
 use Rattle.inert.specs.Steps.{Under}
 use Rattle.inert.specs.Signed.{pair_under}
-use Rattle.inert.specs.SearchMoves.{SignsMore, GoesOn}
-use Rattle.inert.proofs.parts.Stages.{seen_on}
-use Rattle.inert.specs.Search.{Search, VisitState, stage_at, item_at, GivesPair, IsNotBelow, BelongsTo}
+use Rattle.signatures.proofs.CallerLemmas.{Grow-same, Grow-twice}
+use Rattle.inert.specs.SearchMoves.{GoesOn}
+use Rattle.inert.specs.Search.{Search, stage_at, item_at, GivesPair, IsNotBelow, BelongsTo}
 use Rattle.inert.specs.Search.{ComponentHasPair, IsToBeRead, IsBeingSearched, IsFollowed, IsHandled, IsSound}
 use Rattle.inert.specs.Search.{IsInternedItem, IsRoot, AreRoots, SearchInvariant, OnStack, Completed, Frame, Root, Item}
-use Rattle.inert.specs.Search.{Pair, Interned}
+use Rattle.inert.specs.Search.{Pair, Interned, VisitState, IsCacheable}
 
 -- The stack is divided into components, which collect items: pairs (label ID, block) and signature IDs. A signature ID
 -- represents all pairs of its signature. `AreSound` holds if each pair that some item represents is in the signature of
@@ -109,17 +108,28 @@ module _ {u : Under} {signatures lists' : List (List (ℕ × ℕ))} (grow : Grow
         λ z g. rw (keeps.states p h) (all z ((give z).1 (rw same at g))),
       )
 
--- Suppose that each of two consecutive moves of the search assigns the correct signature ID to each state that it
--- completes. Then each state that was completed by one of these moves has the correct signature ID after the second
--- move.
-pub signs_on : (u : Under) (first signatures : List (List (ℕ × ℕ))) (old mid new : List VisitState)
-    → Grow first signatures
-    → SignsMore u first old mid → SignsMore u signatures mid new → SignsMore u signatures old new
-signs_on u first signatures old mid new grow were are s k is =
-    grind (arith, are s k is, were s k, grow.longer, grow.same)
+-- Suppose that all completed states stay completed with the same signature IDs. If the signature with the ID k may be
+-- cached for the state s (`IsCacheable`), it may still be cached for s afterwards, even if more signatures are
+-- interned.
+pub kept_still : {signatures lists' : List (List (ℕ × ℕ))} → Grow signatures lists' → (u : Under)
+    (old new : List VisitState) → ((s k : ℕ) → stage_at old s ≡ Completed k → stage_at new s ≡ Completed k)
+    → (s k : ℕ) → IsCacheable u s signatures old k → IsCacheable u s lists' new k
+kept_still grow u old new still s k was =
+    grind (arith, was, was.signature, still, grow.longer, grow.same k was.within)
+
+-- If the invariant of the search holds for `new`, and no state has changed its status since `old`, then the search has
+-- gone on from `old` to `new` (`GoesOn`).
+pub stays_on : {u : Under} {signatures : List (List (ℕ × ℕ))} {old new : Search} → SearchInvariant u signatures new →
+    new.stages ≡ old.stages → GoesOn u signatures signatures old new
+stays_on {signatures = signatures} walks same = grind (arith, walks, same, Grow-same signatures)
 
 -- `GoesOn` is transitive: if the search goes on from `old` to `mid` and from `mid` to `new`, it goes on from `old` to
 -- `new`.
-pub goes_on : {u : Under} {first signatures : List (List (ℕ × ℕ))} {old mid new : Search} → Grow first signatures →
-    GoesOn u first old mid → GoesOn u signatures mid new → GoesOn u signatures old new
-goes_on grow were are = grind (arith, common_steps, are, seen_on, were, signs_on)
+pub goes_on : {u : Under} {first before signatures : List (List (ℕ × ℕ))} {old mid new : Search} →
+    GoesOn u first before old mid → GoesOn u before signatures mid new → GoesOn u first signatures old new
+goes_on were are = record {
+  walks = are.walks;
+  grow = Grow-twice were.grow are.grow;
+  seen = grind (arith, were.seen, are.seen);
+  signs = λ s k is. grind (arith, are.signs s k is, were.signs s k, are.grow.longer, are.grow.same);
+}

@@ -4,13 +4,12 @@ use Rattle.std.proofs.Common.{rules, ◌≡◌, ◌⊎◌, ◌∙◌, ℕ, ◌<�
 use Rattle.std.proofs.lemmas.Bool.{cases_lt}
 use Rattle.std.proofs.lemmas.List.{get_or_past, get_or-map, length-map, nil_from_length}
 use Rattle.std.proofs.lemmas.List.Sums.{count_by-le-length}
-use Rattle.signatures.specs.Lists.{AreIds}
 use Rattle.partition.specs.Blocks.{IsMember}
 use Rattle.inert.specs.Steps.{Under}
-use Rattle.inert.specs.Signed.{AreCachedBeside}
+use Rattle.inert.specs.Signed.{CachesBeside}
 use Rattle.inert.specs.Search.{Search, nothing, stage_at, id_of, cached, AreCacheable, IsFinished, HasEnded}
-use Rattle.inert.specs.Search.{AreMarkedUnvisited}
-use Rattle.inert.specs.Search.{SearchInvariant, Unvisited, OnStack, Completed, VisitState, KeepsVisited}
+use Rattle.inert.specs.Search.{AreMarkedUnvisited, HasVisitStates, is_unvisited}
+use Rattle.inert.specs.Search.{SearchInvariant, Unvisited, OnStack, Completed, VisitState}
 use Rattle.inert.proofs.parts.Tops.{no_root}
 use Rattle.inert.specs.SearchMoves.{IsAtRest}
 use Rattle.inert.proofs.invariant.Standing.{frames_some, root_low}
@@ -28,14 +27,10 @@ pub cached_at : (stages : List VisitState) (s k : ℕ) → stage_at stages s ≡
     → slice_index (cached stages) s ≡ k
 cached_at stages s k is = kept_is stages s ∙ ap id_of is
 
--- `AreOthers` holds if each state is completed, except for the active states (the states that the round processes).
-abbrev pub AreOthers : List ℕ → List VisitState → Type 0
-AreOthers active stages = (s : ℕ) → s < length stages → IsMember active s ⊎ IsFinished stages s
-
 -- These lemmas assume that the active states (the states that the round processes) were marked as unvisited, and that
 -- all states were completed before that.
 module _ {active : List ℕ} {old w : Search} (woken : AreMarkedUnvisited old.stages active w) (over : HasEnded old) where
-  others : AreOthers active w.stages
+  others : (s : ℕ) → s < length w.stages → IsMember active s ⊎ IsFinished w.stages s
   others s h = grind (arith, h, over.all s, woken.size, woken.others s)
 
   pub unvisited : (s : ℕ) → IsMember active s → stage_at w.stages s ≡ Unvisited
@@ -47,29 +42,27 @@ module _ {active : List ℕ} {old w : Search} (woken : AreMarkedUnvisited old.st
   unless_finished s = let past = get_or_past w.stages s Unvisited in
       grind (arith, cases_lt s (length w.stages), past, others s, unvisited s)
 
-  -- The active states are the states that the round processes. After the search, each state that is not active is still
-  -- completed.
-  pub others_on : {new : List VisitState} → KeepsVisited w.stages new → length new ≡ length old.stages
-      → AreOthers active new
-  others_on seen size s h = grind (arith, h, size, woken.size, others s, seen.finished s)
-
   -- The active states are the states that the round processes. Suppose that the cached signature ID is correct for each
   -- state that is not active but shares a block with an active state. Then a search can begin (`IsAtRest`).
-  pub woken_rests : {u : Under} {signatures : List (List (ℕ × ℕ))} → length old.stages ≡ u.l.states
-      → AreIds signatures (cached old.stages) → AreCachedBeside u.l u.blocks active signatures (cached old.stages)
-      → 1 ≤ length signatures → IsAtRest u signatures w
-  woken_rests {u = u} {signatures = signatures} size signature_ids are some =
+  pub woken_rests : {u : Under} {signatures : List (List (ℕ × ℕ))}
+      → CachesBeside u.l u.blocks active signatures (cached old.stages) → 1 ≤ length signatures → IsAtRest u signatures w
+  woken_rests {u = u} {signatures = signatures} had some =
+      let size : length old.stages ≡ u.l.states = sym (length-map old.stages id_of) ∙ had.states in
       let signed : AreCacheable u signatures w.stages = λ s k is.
       let inside : s < length old.stages = grind (arith, get_or_past w.stages s Unvisited, is, woken.size) in
       let id : slice_index (cached old.stages) s ≡ k =
       grind (arith, woken.others s, unvisited s, is, cached_at old.stages s k) in
       record {
-        within = let within = signature_ids s 0 in grind (arith, id, within, inside, length-map old.stages id_of);
+        within = let within = had.each s 0 in grind (arith, id, within, inside, length-map old.stages id_of);
         signature = λ t low block.
-            grind (arith, others t, are s t, size, inside, low, block, id, woken.size, unvisited s, is);
+            grind (arith, others t, had.beside s t, size, inside, low, block, id, woken.size, unvisited s, is);
       } in
-      let sizes = woken.size ∙ size in
-      search (rules, woken.empty, sizes, some, unless_finished, signed, w.stages, count_by-le-length)
+      let sizes : HasVisitStates u.l.states (length signatures) 0 w.stages =
+      omega (arith, woken.size, size, some, count_by-le-length is_unvisited w.stages) in
+      record {
+        empty = woken.empty;
+        walks = rw woken.empty (grind (arith, sizes, unless_finished, signed));
+      }
 
 finished_stage : (m : VisitState) → ¬ (m ≡ Unvisited) → ((p : ℕ) → ¬ (m ≡ OnStack p)) → (k : ℕ) × (m ≡ Completed k)
 finished_stage Unvisited seen shut = absurd (seen refl)
@@ -77,28 +70,20 @@ finished_stage (OnStack p) seen shut = absurd (shut p refl)
 finished_stage (Completed k) seen shut = (k, refl)
 
 module _ {u : Under} {signatures : List (List (ℕ × ℕ))} {w : Search} (rests : IsAtRest u signatures w) where
-  pub idle_walks : SearchInvariant u signatures (nothing w.stages)
-  idle_walks = grind (arith, rests.sizes, rests.shut, rests.signed)
-
   pub within : {s : ℕ} → s < u.l.states → s < length w.stages
-  within inside = let size = rests.sizes.size in omega (arith, size, inside)
+  within inside = let size = rests.walks.sizes.size in omega (arith, size, inside)
 
   -- If no search is in progress (`IsAtRest`), each visited state is completed.
   pub finished : (s : ℕ) → ¬ (stage_at w.stages s ≡ Unvisited) → IsFinished w.stages s
-  finished s found = finished_stage (stage_at w.stages s) found (rests.shut s)
+  finished s found = finished_stage (stage_at w.stages s) found
+      (λ p is. let on = rests.walks.opened.only s p is in omega (arith, on.0, ap (λ w. length w.stack) rests.empty))
 
 -- A frame has the outgoing transitions of a state on the stack that are still to be read. If the invariant of the
--- search holds and there is no frame, then no search is in progress (`IsAtRest`).
+-- search holds and there is no frame, then no search is in progress: all lists of the search are empty.
 pub walk_rests : {u : Under} {signatures : List (List (ℕ × ℕ))} {w : Search} → SearchInvariant u signatures w
-    → length w.frames ≡ 0
-    → IsAtRest u signatures w
+    → length w.frames ≡ 0 → w ≡ nothing w.stages
 walk_rests {w = w} walks none =
     let stack : length w.stack ≡ 0 = grind (arith, frames_some walks, none) in
     let roots : length w.roots ≡ 0 = grind (arith, root_low walks 0 no_root, stack) in
     let items : length w.items ≡ 0 = grind (arith, walks.sound 0, stack) in
-    record {
-      empty = search (rules, w.stages, stack, nil_from_length, w.stack, w.frames, roots, w.roots, items);
-      sizes = omega (arith, walks.sizes);
-      shut = λ s p is. let was = walks.opened.only s p is in omega (arith, was.0, stack);
-      signed = walks.signed;
-    }
+    search (rules, w.stages, stack, nil_from_length, w.stack, w.frames, roots, w.roots, items)

@@ -2,13 +2,15 @@
 -- transition or has gone back from a state whose transitions were all read.
 use Rattle.std.proofs.Common.{rules, ◌≡◌, ℕ, ◌-◌, ◌<◌, ◌≤◌, List, length, slice_index, sym, arith}
 use Rattle.std.specs.List.{All}
-use Rattle.std.proofs.lemmas.List.{get_or_default}
+use Rattle.std.proofs.lemmas.List.{get_or_default, get_or_past}
+use Rattle.std.proofs.lemmas.List.Elements.{All-from_get_or}
 use Rattle.theory.specs.declared.relation.Relation.TheVariants.{Branching}
 use Rattle.lts.specs.Lts.{system_of, source_of, place_at}
 use Rattle.inert.specs.Steps.{Under}
 use Rattle.inert.specs.SearchMoves.{HasRead}
 use Rattle.inert.specs.Signed.{HasPair}
 use Rattle.inert.specs.Search.{Search, Laws, stage_at, frame_at, LeadsInertly, IsSigned, SearchInvariant, Completed}
+use Rattle.inert.specs.Search.{VisitState, AreOpen, Unvisited}
 use Rattle.inert.proofs.parts.Tops.{no_frame, here, last, no_root}
 
 -- Suppose that a path of inert steps leads from the state s to the state t. Then the signature of s contains each pair
@@ -16,6 +18,14 @@ use Rattle.inert.proofs.parts.Tops.{no_frame, here, last, no_root}
 pub pair_before : (laws : Laws) (u : Under) (s t : ℕ) (z : ℕ × ℕ) → LeadsInertly u s t
     → HasPair Branching u.l u.blocks t z.0 z.1 → HasPair Branching u.l u.blocks s z.0 z.1
 pair_before laws u s t z tie has = (has.0, laws.path (system_of u.l) (slice_index u.blocks) s t _ z.1 tie has.1)
+
+-- The list `stages` has the status of each state: unvisited, on the stack, or completed. It has an entry for each state
+-- on the stack.
+pub open_inside : (stages : List VisitState) (stack : List ℕ) → AreOpen stages stack
+    → All (λ s. s < length stages) stack
+open_inside stages stack opened =
+    All-from_get_or (λ s. s < length stages) stack 0
+    (λ p h. grind (arith, get_or_past stages (slice_index stack p) Unvisited, opened.placed p h))
 
 module _ {u : Under} {signatures : List (List (ℕ × ℕ))} {w : Search} (walks : SearchInvariant u signatures w) where
   pub frames_some : 0 < length w.stack → 0 < length w.frames
@@ -68,8 +78,7 @@ module _ {u : Under} {signatures : List (List (ℕ × ℕ))} {w : Search} (walks
 -- contains the signature ID k. Suppose also that t shares a block with some state on the stack. Then k is the ID of the
 -- signature of t.
 pub list_signed : {u : Under} {signatures : List (List (ℕ × ℕ))} {w : Search} → SearchInvariant u signatures w
-    → (p t k : ℕ)
-    → p < length w.stack → slice_index w.stack p < u.l.states
+    → (p t k : ℕ) → p < length w.stack → slice_index w.stack p < u.l.states
     → slice_index u.blocks t ≡ slice_index u.blocks (slice_index w.stack p) → stage_at w.stages t ≡ Completed k
     → IsSigned u t signatures k
 list_signed {w = w} walks p t k low inside same is =

@@ -1,7 +1,7 @@
 -- Lemmas about how the search goes back from a state whose outgoing transitions were all read. The frame of the state
 -- is then popped. If the state is the root (the first state on the stack) of a component, this component is completed.
 use Rattle.std.proofs.Common.{◌≡◌, ◌≢◌, ℕ, ◌+◌, ◌-◌, ◌<◌, ◌≤◌, List, length, slice_index, sym, ◌∙◌, ap, inl, inr, rules}
-use Rattle.std.proofs.Common.{arith, take, get_or, Contains}
+use Rattle.std.proofs.Common.{refl, arith, take, get_or, Contains}
 use Rattle.std.specs.List.{All}
 use Rattle.std.proofs.Math.Logic.{⊎_map}
 use Rattle.std.proofs.lemmas.Bool.{cases_eq, cases_lt}
@@ -16,14 +16,13 @@ use Rattle.inert.specs.Search.{Search, stage_at, frame_at, IsToBeRead, IsBeingSe
 use Rattle.inert.specs.Search.{Laws, item_at, BelongsTo, IsNotBelow, IsRoot, IsInternedItem, IsFrame, AreFrames}
 use Rattle.inert.specs.Search.{AreHandled, ComponentHasPair, AreOpen, IsSigned, IsSound, Root, Pair, Interned}
 use Rattle.inert.specs.Search.{is_unvisited, unseen, KeepsVisited, rest}
-use Rattle.inert.proofs.parts.Tops.{no_frame, here, last, no_root, IsBefore}
+use Rattle.inert.proofs.parts.Tops.{no_frame, here, last, no_root, IsBefore, AllPairs-take, All-from_take}
 use Rattle.inert.specs.SearchMoves.{HasRead, Closes, ahead, SignsMore, GoesOn}
-use Rattle.inert.proofs.parts.Stages.{seen_same, kept_still}
-use Rattle.inert.proofs.parts.Rising.{AllPairs-take, All-from_take}
+use Rattle.inert.proofs.invariant.Keeping.{kept_still, KeepsStack, roots_kept, accounted_still, sound_still, AreSound}
+use Rattle.inert.proofs.invariant.Keeping.{stays_on}
 use Rattle.inert.proofs.parts.Counting.{unseen-same, unread-same, rest-cut}
-use Rattle.inert.proofs.invariant.Standing.{reached, on_stack, not_last, last_most, none_ahead, pair_before}
-use Rattle.inert.proofs.invariant.Standing.{last_low, root_low}
-use Rattle.inert.proofs.invariant.Keeping.{KeepsStack, roots_kept, accounted_still, sound_still, AreSound}
+use Rattle.inert.proofs.invariant.Standing.{reached, on_stack, not_last, last_most, none_ahead, pair_before, last_low}
+use Rattle.inert.proofs.invariant.Standing.{root_low}
 use Rattle.inert.proofs.signatures.Exact.{exact}
 
 -- A frame has the outgoing transitions of a state on the stack that are still to be read, and there is a list of all
@@ -91,8 +90,8 @@ module _ {u : Under} {signatures : List (List (ℕ × ℕ))} {w : Search} (walks
     -- A frame has the outgoing transitions of a state on the stack that are still to be read, and there is a list of
     -- all frames. Suppose that all outgoing transitions of the state of the last frame were read. Then the invariant of
     -- the search still holds after this frame was removed from the list (`GoesOn`).
-    pub popped_on : GoesOn u signatures w (popped w)
-    popped_on = record { walks = SearchInvariant-pop; seen = seen_same w.stages; signs = λ s k is. inl is }
+    pub popped_on : GoesOn u signatures signatures w (popped w)
+    popped_on = stays_on SearchInvariant-pop refl
 
 -- A frame has the outgoing transitions of a state on the stack that are still to be read. These lemmas assume that all
 -- outgoing transitions of the state of the last frame were read, and that this state is the root of a component (its
@@ -283,11 +282,11 @@ module _ (laws : Laws) {u : Under} (lts : IsLts u.l) {before signatures : List (
   -- Suppose that the component at the top of the stack is completed. Then the invariant of the search still holds
   -- (`GoesOn`). The number of visits (counted reads of transitions) that are still to be made and the number of
   -- unvisited states do not change.
-  pub closed : GoesOn u signatures w new × (ahead u new ≡ ahead u w) × (unseen new.stages ≡ unseen w.stages)
+  pub closed : GoesOn u before signatures w new × (ahead u new ≡ ahead u w) × (unseen new.stages ≡ unseen w.stages)
   closed =
       let cut = rest-cut u.visited w.frames some read in
       let frames = ap (rest u.visited) closes.frames in (
-        record { walks = SearchInvariant-closed; seen = closed_seen; signs = closed_signs },
+        record { walks = SearchInvariant-closed; grow = closes.listed.grow; seen = closed_seen; signs = closed_signs },
         omega (arith, unread-same w.stages new.stages same_unseen (remaining u), cut, frames),
         unseen-same w.stages new.stages same_unseen closes.stages.size,
       )

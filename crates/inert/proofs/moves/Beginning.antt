@@ -2,21 +2,21 @@
 -- transitions of a state on the stack that are still to be read). In this phase the search behaves as if the first
 -- state were on the stack and had a frame.
 use Rattle.std.proofs.Common.{rules, ◌≡◌, ℕ, ◌+◌, ◌<◌, ◌≤◌, Bool, List, [], ◌∷◌, length, slice_index, set, refl, ◌∙◌}
-use Rattle.std.proofs.Common.{ap, inl, inr, arith}
+use Rattle.std.proofs.Common.{ap, subst, inl, inr, arith}
 use Rattle.std.proofs.lemmas.List.{get_or-set_same, get_or-set_other}
 use Rattle.lts.specs.Lts.{place_at, IsLts, IsRow}
 use Rattle.lts.specs.Visited.{price_between}
 use Rattle.lts.proofs.CallerLemmas.{price_none, price_split}
 use Rattle.inert.specs.Steps.{Under, remaining, IsStep}
 use Rattle.inert.specs.Search.{Search, Laws, nothing, stage_at, VisitState, Unvisited, OnStack, Completed, Item, unread}
+use Rattle.inert.specs.Search.{SearchInvariant}
 use Rattle.inert.proofs.parts.Tops.{no_frame}
 use Rattle.inert.specs.SearchMoves.{with_pushed, LeadsOn, HandlesStep, Finishes, ahead, Closes, GoesOn, IsAtRest}
 use Rattle.inert.specs.SearchMoves.{IsUnionOfItems}
 use Rattle.inert.specs.declared.lens.Step.{Step}
 use Rattle.inert.specs.declared.lens.Step.TheVariants.{Inert as Goes, Shows}
-use Rattle.signatures.proofs.CallerLemmas.{Grow-same}
 use Rattle.inert.proofs.invariant.Keeping.{goes_on}
-use Rattle.inert.proofs.invariant.Resting.{idle_walks, within}
+use Rattle.inert.proofs.invariant.Resting.{within}
 use Rattle.inert.proofs.moves.Forward.{entered_on}
 use Rattle.inert.proofs.moves.Reading.{Stays, reads_none, marked}
 use Rattle.inert.proofs.moves.Back.{popped, closed}
@@ -34,28 +34,29 @@ framed s next end stages items = with_pushed s next end 0 (collecting stages ite
 
 -- The place of a transition is its index in the list of all transitions. `Begins` holds if a search has begun at the
 -- state s, and has read the transitions of s at the places from `start` up to but excluding k. The search was at `old`
--- before it began, and is at w now.
-pub record Begins (u : Under) (signatures : List (List (ℕ × ℕ))) (old : Search) (s start k : ℕ) (w : Search) : Type 0
+-- before it began, and is at w now. The interned signatures were `before`, and are `signatures` now.
+pub record Begins (u : Under) (before signatures : List (List (ℕ × ℕ))) (old : Search) (s start k : ℕ) (w : Search) :
+    Type 0
   where
-    pub on : GoesOn u signatures old w
+    pub on : GoesOn u before signatures old w
     pub found : ¬ (stage_at w.stages s ≡ Unvisited)
     pub forward : start ≤ k
     pub less : ahead u w + price_between u.visited start k ≡ unread (remaining u) old.stages
 
 -- The condition `Begins` holds at the start of a search, when no transition of the first state s was read.
 pub begins : {u : Under} {signatures : List (List (ℕ × ℕ))} {w : Search} {s start end : ℕ} → Laws
-    → IsAtRest u signatures w
-    → s < u.l.states → stage_at w.stages s ≡ Unvisited → IsRow u.l.places s start end
-    → Begins u signatures w s start start (framed s start end w.stages w.items)
+    → IsAtRest u signatures w → s < u.l.states → stage_at w.stages s ≡ Unvisited → IsRow u.l.places s start end
+    → Begins u signatures signatures w s start start (framed s start end w.stages w.items)
 begins {u = u} {signatures = signatures} {w = w} {s = s} {start = start} {end = end} laws rests inside none row =
     let low = within rests inside in
-    let (on, ahead) = entered_on (idle_walks rests) laws low none row (λ some. absurd (omega (arith, some))) in
+    let walks = subst (SearchInvariant u signatures) rests.empty rests.walks in
+    let (on, ahead) = entered_on walks laws low none row (λ some. absurd (omega (arith, some))) in
     let now = get_or-set_same w.stages s (OnStack 0) Unvisited low in
     rw (ap (λ w. w.items) rests.empty) (grind (arith, on, ahead, now, price_none u.visited start))
 
 module _ (laws : Laws) {u : Under} (lts : IsLts u.l) {signatures : List (List (ℕ × ℕ))} {old w : Search}
     {s start end k : ℕ}
-    (same : w ≡ collecting old.stages w.items) (begun : Begins u signatures old s start k
+    (same : w ≡ collecting old.stages w.items) (begun : Begins u signatures signatures old s start k
     (framed s k end old.stages w.items)) where
   abbrev Framed : Search
   Framed = framed s k end old.stages w.items
@@ -67,7 +68,7 @@ module _ (laws : Laws) {u : Under} (lts : IsLts u.l) {signatures : List (List (�
     Is step = IsStep u (slice_index u.blocks s) (place_at u.l.places k) step
 
     abbrev Next : Search → Type 0
-    Next m = Begins u signatures old s start (k + 1) m
+    Next m = Begins u signatures signatures old s start (k + 1) m
 
     -- A place is an index in the list of all transitions. Suppose that the search pushes its first state s with a frame
     -- for the transitions of s after the place k, and then processes the transition at the place k. Then the search has
@@ -78,7 +79,7 @@ module _ (laws : Laws) {u : Under} (lts : IsLts u.l) {signatures : List (List (�
         let none : Stays Framed Framed = record { size = refl; stack = refl; unseen = refl } in
         let one = (marked (reads_none begun.on.walks (omega arith)) none (omega arith) laws lts more
         (slice_index u.blocks s) refl step is refl refl takes).reads in
-        let on = goes_on (Grow-same signatures) begun.on one.on in
+        let on = goes_on begun.on one.on in
         let price = price_split u.visited start k (k + 1) begun.forward (omega arith) in
         grind (arith, on, begun.found, one.on.seen.unseen s, one.less, begun.less, begun.forward, price)
 
@@ -115,9 +116,9 @@ module _ (laws : Laws) {u : Under} (lts : IsLts u.l) {signatures : List (List (�
     closes = search (rules, id, listed, finishes)
 
     pub begun_ends : {new : Search} → new ≡ record w { stages = set w.stages s (Completed id); items = [] }
-        → Begins u lists' old s start k new
+        → Begins u signatures lists' old s start k new
     begun_ends is =
         let most = (begun.on.walks.frames.each 0 no_frame (omega arith)).most in
         let (on, same_ahead, same_unseen) =
         closed laws lts begun.on.walks (omega arith) (omega (arith, most, over)) refl closes in
-        rw (is, same) (grind (arith, goes_on listed.grow begun.on on, begun, on.seen.unseen s, same_ahead))
+        rw (is, same) (grind (arith, goes_on begun.on on, begun, on.seen.unseen s, same_ahead))

@@ -24,13 +24,12 @@ use Rattle.inert.specs.Search.{HasVisitStates, Search, item_at, IsInternedItem, 
 use Rattle.inert.specs.Search.{SearchInvariant, Item, Laws, stage_at, IsNotBelow, IsRoot, IsInComponent, Root, OnStack}
 use Rattle.inert.specs.Search.{frame_at, IsFrame, IsBeingSearched, IsToBeRead, AreOpen, AreRoots, AreFrames, AreHandled}
 use Rattle.inert.specs.Search.{AreCacheable, Connects, Unvisited, Frame, IsFollowed, IsHandled}
-use Rattle.inert.proofs.parts.Tops.{here, no_root, no_frame, IsBefore}
+use Rattle.inert.proofs.parts.Tops.{here, no_root, no_frame, IsBefore, AllPairs-take, All-from_take}
 use Rattle.inert.specs.SearchMoves.{with_item, CutsRoots, with_pushed, GoesOn, ahead}
-use Rattle.inert.proofs.parts.Rising.{AllPairs-take, All-from_take}
 use Rattle.inert.proofs.parts.Counting.{unseen-set, unread-set}
-use Rattle.inert.proofs.parts.Stages.{kept_still}
+use Rattle.inert.proofs.invariant.Keeping.{kept_still, KeepsStack, roots_kept, accounted_still, sound_still, done_still}
+use Rattle.inert.proofs.invariant.Keeping.{AreSound}
 use Rattle.inert.proofs.invariant.Standing.{reached, on_stack, ties, frames_some, root_low}
-use Rattle.inert.proofs.invariant.Keeping.{KeepsStack, roots_kept, accounted_still, sound_still, done_still, AreSound}
 
 module _ {u : Under} {signatures : List (List (ℕ × ℕ))} {w : Search} (walks : SearchInvariant u signatures w) where
   abbrev grow : Grow signatures signatures
@@ -58,8 +57,7 @@ module _ {u : Under} {signatures : List (List (ℕ × ℕ))} {w : Search} (walks
 
     pub SearchInvariant-collect : 0 < length w.frames → IsInternedItem signatures x
         → ((z : ℕ × ℕ) → GivesPair signatures x z
-        → HasPair Branching u.l u.blocks (slice_index w.stack (here w)) z.0 z.1)
-        → SearchInvariant u signatures With
+        → HasPair Branching u.l u.blocks (slice_index w.stack (here w)) z.0 z.1) → SearchInvariant u signatures With
     SearchInvariant-collect some there sound =
         let roots = roots_kept walks.roots w.frames With.items (λ i d h.
         grind (arith, walks.roots.each i d h, length_push w.items x)) in
@@ -255,18 +253,12 @@ module _ {u : Under} {signatures : List (List (ℕ × ℕ))} {w : Search} (walks
 
       -- If the search pushes the state t, its invariant still holds (`GoesOn`), and the number of visits (counted reads
       -- of transitions) that are still to be made does not change.
-      pub entered_on : GoesOn u signatures w Entered × (ahead u Entered ≡ ahead u w)
+      pub entered_on : GoesOn u signatures signatures w Entered × (ahead u Entered ≡ ahead u w)
       entered_on =
           let read = unread-set w.stages t (OnStack n) refl within unseen (remaining u) in
           let row = row_left u.visited u.l.places t start end row in
-          let push = sum_by_push (λ y. price_between u.visited y.next y.end) w.frames NewFrame in (
-            record {
-              walks = SearchInvariant-enter;
-              seen = grind (arith, stage_of, unseen);
-              signs = λ s k is. inl (grind (arith, stage_of s, is));
-            },
-            omega (arith, read, row, push),
-          )
+          let push = sum_by_push (λ y. price_between u.visited y.next y.end) w.frames NewFrame in
+          (grind (arith, SearchInvariant-enter, grow, stage_of, unseen), omega (arith, read, row, push))
 
   -- A frame has the outgoing transitions of a state that are still to be read. These lemmas assume that the transition
   -- at the place (index) m is the first transition of the frame i, and that this transition is marked as read.

@@ -18,9 +18,7 @@ use Rattle.inert.proofs.parts.Tops.{no_frame, here}
 use Rattle.inert.specs.SearchMoves.{with_pushed, with_item, HandlesStep, ahead, steps, GoesOn}
 use Rattle.inert.specs.declared.lens.Step.{Step as TakenStep}
 use Rattle.inert.specs.declared.lens.Step.TheVariants.{Inert as Goes, Shows}
-use Rattle.inert.proofs.parts.Stages.{seen_same}
-use Rattle.signatures.proofs.CallerLemmas.{Grow-same}
-use Rattle.inert.proofs.invariant.Keeping.{goes_on}
+use Rattle.inert.proofs.invariant.Keeping.{stays_on, goes_on}
 use Rattle.inert.proofs.parts.Counting.{unseen-set, rest-next, rest-most}
 use Rattle.inert.proofs.invariant.Standing.{pair_before, list_signed}
 use Rattle.inert.proofs.signatures.Exact.{place_step}
@@ -63,7 +61,7 @@ module _ (laws : Laws) {u : Under} (lts : IsLts u.l) {signatures : List (List (�
   -- `Taken` lists the facts that hold for the search m after the transition e was processed. The flag `enters` is true
   -- if a state was pushed when e was processed.
   pub record Taken (m : Search) (enters : Bool) : Type 0 where
-    pub on : GoesOn u signatures w m
+    pub on : GoesOn u signatures signatures w m
     pub done : IsHandled u signatures m (here w) e
     pub same_ahead : ahead u m ≡ ahead u w
     pub same_frame : frame_at m.frames (length w.frames - 1) ≡ top w.frames
@@ -74,7 +72,7 @@ module _ (laws : Laws) {u : Under} (lts : IsLts u.l) {signatures : List (List (�
   stayed : (roots : List Root) (items : List Item) (enters : Bool) → let m : Search =
       record w { roots = roots; items = items } in
       SearchInvariant u signatures m → IsHandled u signatures m (here w) e → ¬ IsTrue enters → Taken m enters
-  stayed roots items enters after done stay = grind (arith, after, done, seen_same w.stages, stay)
+  stayed roots items enters after done stay = let on = stays_on {old = w} after refl in grind (arith, on, done, stay)
 
   -- These lemmas assume that the transition e is inert. Its target can be unvisited, on the stack, or completed. In
   -- each case, the invariant of the search still holds after e was processed (`Taken`).
@@ -144,7 +142,7 @@ marked_first places w enters (Goes t) low (inr (inr (id, stage, new, stay))) =
 -- holds if the search has gone from `old` to `new` by reading transitions of the last frame of `old`, up to but
 -- excluding the transition at the place (index) k.
 pub record Reads (u : Under) (signatures : List (List (ℕ × ℕ))) (old new : Search) (k : ℕ) : Type 0 where
-  pub on : GoesOn u signatures old new
+  pub on : GoesOn u signatures signatures old new
   pub here : frame_at new.frames (length old.frames - 1) ≡ record (top old.frames) { next = k }
   pub forward : (top old.frames).next ≤ k
   pub less : ahead u new + price_between u.visited (top old.frames).next k ≡ ahead u old
@@ -167,9 +165,9 @@ pub record Marked (u : Under) (signatures : List (List (ℕ × ℕ))) (old new :
     pub nearer : IsTrue enters → steps new < steps old
 
 pub reads_none : {u : Under} {signatures : List (List (ℕ × ℕ))} {w : Search} → SearchInvariant u signatures w
-    → 0 < length w.frames
-    → Reads u signatures w w (top w.frames).next
-reads_none {u = u} {w = w} walks some = grind (arith, walks, some, seen_same w.stages, price_none u.visited)
+    → 0 < length w.frames → Reads u signatures w w (top w.frames).next
+reads_none {u = u} {w = w} walks some =
+    let on = stays_on {old = w} walks refl in grind (arith, on, some, price_none u.visited)
 
 module _ {u : Under} {signatures : List (List (ℕ × ℕ))} {first w : Search} {k : ℕ}
     (reads : Reads u signatures first w k)
@@ -221,8 +219,7 @@ module _ {u : Under} {signatures : List (List (ℕ × ℕ))} {first w : Search} 
           let done = subst (λ (y : Frame). IsHandled u signatures m y.height (place_at u.l.places k))
           (top_is ∙ sym same_frame) took.done in
           let walks = SearchInvariant-next took.on.walks low is_next next before done in
-          let on = goes_on (Grow-same signatures) reads.on
-          (record { walks = walks; seen = took.on.seen; signs = took.on.signs }) in
+          let on = goes_on (goes_on reads.on took.on) (stays_on walks refl) in
           let here : frame_at (set m.frames i x) (length first.frames - 1)
           ≡ record (top first.frames) { next = k + 1 } =
           grind (arith, get_or-set_same m.frames i x no_frame low, last, is_next, same_frame) in

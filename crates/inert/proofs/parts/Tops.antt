@@ -1,14 +1,10 @@
--- Helper definitions for the proofs about the search. They build a search from its parts, and return parts of a search,
--- such as the last root, which is the first state of the component at the top of the stack.
-use Rattle.std.specs.Prelude.{ℕ, ◌-◌, ◌<◌, ◌≤◌, List, length}
-use Rattle.inert.specs.Search.{Search, VisitState, Frame, Root, Item, top, root_at}
-
--- A frame has the outgoing transitions of a state on the stack that are still to be read. A root is the first state of
--- a component on the stack. An item is a pair (label ID, block) or a signature ID. Returns the search with the given
--- status of each state, stack, frames, roots, and items.
-abbrev pub walk_of : List VisitState → List ℕ → List Frame → List Root → List Item → Search
-walk_of stages stack frames roots items =
-    record { stages = stages; stack = stack; frames = frames; roots = roots; items = items }
+-- Helper definitions for the proofs about the search. They return parts of a search, such as the last root, which is the
+-- first state of the component at the top of the stack.
+use Rattle.std.proofs.Common.{ℕ, ◌-◌, ◌<◌, ◌≤◌, List, length, take, get_or, arith}
+use Rattle.std.specs.List.{All, AllPairs}
+use Rattle.std.proofs.lemmas.Grind.{elements}
+use Rattle.std.proofs.lemmas.List.Elements.{All-from_get_or}
+use Rattle.inert.specs.Search.{Search, Frame, Root, top, root_at}
 
 -- A frame has the outgoing transitions of a state on the stack that are still to be read. A root is the first state of
 -- a component on the stack. These are the default values of frames and roots, which are returned for an index outside a
@@ -33,3 +29,14 @@ last roots = root_at roots (length roots - 1)
 -- stack, and the items of the component of x do not begin after the items of the component of y.
 abbrev pub IsBefore : Root → Root → Type 0
 IsBefore x y = (x.height < y.height) × (x.items ≤ y.items)
+
+-- If each element of a list is in a given relation to all elements after it (`AllPairs`), then the same holds for the
+-- first n elements of the list.
+pub AllPairs-take : {X : Type 0} (R : X → X → Type 0) (n : ℕ) (xs : List X) → AllPairs R xs → AllPairs R (take n xs)
+AllPairs-take R n xs old i j d h low = grind (arith, elements, old i j d)
+
+-- Suppose that a property P holds for each of the first n elements of a list and for each element after them. Then P
+-- holds for all elements of the list.
+pub All-from_take : {X : Type 0} (P : X → Type 0) (n : ℕ) (xs : List X) (d : X) → All P (take n xs) →
+    ((i : ℕ) → n ≤ i → i < length xs → P (get_or xs i d)) → All P xs
+All-from_take P n xs d first rest = All-from_get_or P xs d (λ i h. grind (arith, elements, rest i, first i d))

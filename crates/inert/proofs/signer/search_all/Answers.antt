@@ -1,11 +1,9 @@
-use Rattle.std.proofs.Common.{rules, ◌≡◌, ◌∙◌, ℕ, ◌-◌, ◌<◌, ◌≤◌, List, length, slice_index, sym, inl, inr, arith}
+use Rattle.std.proofs.Common.{rules, ◌≡◌, ◌∙◌, ℕ, ◌-◌, ◌<◌, ◌≤◌, List, length, slice_index, sym, inl, inr, arith, refl}
 use Rattle.std.proofs.lemmas.Bool.{cases_lt, false≢true}
 use Rattle.std.proofs.lemmas.Grind.{common_steps}
 use Rattle.inert.specs.Search.{VisitState, stage_at, Completed, KeepsVisited}
 use Rattle.std.proofs.lemmas.List.Sums.{length-filter, count_by-le-length}
-use Rattle.inert.proofs.parts.Stages.{seen_same, seen_on}
-use Rattle.signatures.proofs.CallerLemmas.{Grow-same, Grow-twice}
-use Rattle.inert.proofs.invariant.Keeping.{signs_on}
+use Rattle.inert.proofs.invariant.Keeping.{stays_on, goes_on}
 use Rattle.inert.proofs.invariant.Resting.{finished}
 use Rattle.inert.proofs.signer.search_all.Given.{Over}
 use Rattle.inert.proofs.signer.search_all.Goals as goal
@@ -28,13 +26,16 @@ module _ (g : Over) (c : After-is_unvisited g) where
   ]
 
 pub loop-i-init : goal.loop-i-init
-loop-i-init g c = search (rules, length-filter, count_by-le-length, c.requires.rests, seen_same, Grow-same)
+loop-i-init g c = let on = stays_on {old = c.args.search.now} c.requires.rests.walks refl in
+    search (rules, length-filter, count_by-le-length, c.requires.rests, on)
 
 pub loop-i-preserved-then-not-is_unvisited : goal.loop-i-preserved-then-not-is_unvisited
 loop-i-preserved-then-not-is_unvisited g c = let d
     = (goal.at.loop-i-preserved-then-not-is_unvisited g c).After-is_unvisited in
     let inv = c.loop-i.invariant in
-    let all = all_on g d (seen_same c.loop-i.search.stages) (finished inv.rests (slice_index c.args.active.now (i g d))
+    let on = inv.rests.on in
+    let all = all_on g d (stays_on {old = c.loop-i.search} on.walks refl).seen
+    (finished (record { empty = inv.rests.empty; walks = on.walks }) (slice_index c.args.active.now (i g d))
     (λ is. false≢true (sym c.if-not-is_unvisited.true ∙ c.is_unvisited.ensures.1 is))) in
     grind (arith, common_steps, all, inv)
 
@@ -42,7 +43,5 @@ pub loop-i-preserved : goal.loop-i-preserved
 loop-i-preserved g c = let inv = c.loop-i.invariant in
     let done = c.in_ok-finish.ensures in
     let d = (goal.at.loop-i-preserved g c).After-is_unvisited in
-    let all = all_on g d done.seen done.finished in
-    let signs = signs_on _ _ _ _ _ _ done.grow inv.signs done.signs in
-    let seen = seen_on inv.seen done.seen in
-    grind (arith, common_steps, done, all, seen, Grow-twice inv.grow done.grow, signs, inv)
+    let all = all_on g d done.rests.on.seen done.finished in
+    grind (arith, common_steps, done, all, goes_on inv.rests.on done.rests.on, inv)

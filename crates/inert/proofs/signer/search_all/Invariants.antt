@@ -1,18 +1,14 @@
 use Rattle.std.proofs.Common.{ℕ, ◌+◌, ◌<◌, ◌≤◌, length, slice_index}
 use Rattle.lts.specs.Meter.{Costs}
-use Rattle.signatures.specs.Lists.{Grow}
 use Rattle.inert.specs.Steps.{remaining}
-use Rattle.inert.specs.Search.{IsFinished, unread, KeepsVisited}
-use Rattle.inert.specs.SearchMoves.{IsAtRest, SignsMore}
+use Rattle.inert.specs.Search.{IsFinished, unread}
+use Rattle.inert.specs.SearchMoves.{ReturnsToRest}
 use Rattle.inert.proofs.signer.search_all.Given as goal
 
 abbrev pub invariant-loop-i : goal.invariant-loop-i
 invariant-loop-i g l = record {
-  rests : IsAtRest l.lens l.signatures l.search;
+  rests : ReturnsToRest l.lens l.fn.signatures l.signatures l.fn.search l.search;
   all : (j : ℕ) → l.i ≤ j → j < length l.active → IsFinished l.search.stages (slice_index l.active j);
-  seen : KeepsVisited l.fn.search.stages l.search.stages;
-  grow : Grow l.fn.signatures l.signatures;
-  signs : SignsMore l.lens l.signatures l.fn.search.stages l.search.stages;
   room : (g.M.Meter.counted l.m).visits + unread (remaining l.lens) l.search.stages
       ≤ (g.M.Meter.counted l.fn.m).visits + length (remaining l.lens);
   cost : Costs (g.M.Meter.counted l.fn.m) (g.M.Meter.counted l.m) 0 0 (length (remaining l.lens));

@@ -1,14 +1,11 @@
-use Rattle.std.proofs.Common.{rules, ◌≡◌, ◌∙◌, [], set, sym, arith}
+use Rattle.std.proofs.Common.{rules, ◌∙◌, set, ap, sym, arith}
 use Rattle.std.proofs.lemmas.Bool.{false≢true}
 use Rattle.std.proofs.lemmas.Grind.{common_steps}
 use Rattle.lts.proofs.CallerLemmas.{price_none, price_first, price_one_more}
 use Rattle.lts.specs.Meter.{Costs}
 use Rattle.inert.specs.Steps.{remaining}
-use Rattle.inert.specs.Search.{Completed, unread}
-use Rattle.inert.proofs.parts.Tops.{walk_of}
-use Rattle.inert.specs.SearchMoves.{IsUnionOfItems}
+use Rattle.inert.specs.Search.{Search, Completed, unread}
 use Rattle.inert.proofs.invariant.Resting.{within}
-use Rattle.signatures.proofs.CallerLemmas.{Grow-same}
 use Rattle.inert.proofs.moves.Beginning.{begins, takes_framed, takes_bare, begun_ends}
 use Rattle.inert.proofs.depth_first_search.DepthFirstSearch.begin.Given.{Over}
 use Rattle.inert.proofs.depth_first_search.DepthFirstSearch.begin.Goals as goal
@@ -48,7 +45,7 @@ returns-then-leads_on g c = let i = c.loop-k.invariant in
     c.step-step.result c.in_ok-handle_step.field-0 (search rules)
     (rw (c.in_ok-push_state.ensures, i.same) at c.in_ok-handle_step.ensures) in
     let one = price_one_more c.args.lens.now.visited _ _ i.begun.forward in
-    grind (arith, common_steps, Grow-same c.args.signatures.now, went, i.cost, c.step-step.ensures.visit, one)
+    grind (arith, common_steps, went, i.cost, c.step-step.ensures.visit, one)
 
 pub returns-in_err-push_state-clause-cost : goal.returns-in_err-push_state-clause-cost
 returns-in_err-push_state-clause-cost g c = spent g (goal.at.returns-in_err-push_state-clause-cost g c).After-step-step
@@ -65,13 +62,8 @@ returns-in_err-handle_step-2-clause-cost g c = spent g
 -- its outgoing transitions were read.
 pub returns : goal.returns
 returns g c = let i = c.loop-k.invariant in
-    let listed : IsUnionOfItems c.loop-k.self.items c.args.signatures.now c.intern_items.new.signatures c.in_ok-id.id
-    = search rules in
-    let w = c.self.inside in
-    let is : walk_of (set w.stages.items c.args.s (Completed c.in_ok-id.id)) w.stack.items w.frames.items
-    w.roots.items c.clear.new.self.items
-    ≡ record c.loop-k.self { stages = set c.loop-k.self.stages c.args.s (Completed c.in_ok-id.id); items = [] } =
-    search rules in
-    let ended = begun_ends c.invariants.ensures.laws c.invariants.ensures.lts i.same i.begun c.loop-k-test.false listed
-    (within c.requires.rests c.requires.state.0) is in
-    grind (arith, common_steps, ended, listed.grow, i.cost)
+    let ended = begun_ends c.invariants.ensures.laws c.invariants.ensures.lts i.same i.begun c.loop-k-test.false
+    c.in_ok-id.ensures.union (within c.requires.rests c.requires.state.0)
+    (ap (λ (w : Search). record w { stages = set w.stages c.args.s (Completed c.in_ok-id.id) })
+    (c.self.view_is ∙ c.in_ok-id.ensures.others)) in
+    grind (arith, common_steps, ended, i.cost)

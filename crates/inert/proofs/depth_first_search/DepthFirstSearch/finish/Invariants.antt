@@ -1,6 +1,5 @@
 use Rattle.std.proofs.Common.{◌≡◌, ◌+◌}
 use Rattle.lts.specs.Meter.{Costs}
-use Rattle.signatures.specs.Lists.{Grow}
 use Rattle.inert.specs.Search.{stage_at, Unvisited, unread}
 use Rattle.inert.specs.SearchMoves.{ahead, steps, GoesOn}
 use Rattle.inert.specs.Steps.{remaining}
@@ -8,8 +7,7 @@ use Rattle.inert.proofs.depth_first_search.DepthFirstSearch.finish.Given as goal
 
 abbrev pub invariant-loop-self : goal.invariant-loop-self
 invariant-loop-self g l = record {
-  on : GoesOn l.lens l.signatures l.fn.self l.self;
-  grow : Grow l.fn.signatures l.signatures;
+  on : GoesOn l.lens l.fn.signatures l.signatures l.fn.self l.self;
   found : ¬ (stage_at l.self.stages l.s ≡ Unvisited);
   visits : (g.M.Meter.counted l.m).visits + ahead l.lens l.self ≡ (g.M.Meter.counted l.fn.m).visits
       + unread (remaining l.lens) l.fn.self.stages;

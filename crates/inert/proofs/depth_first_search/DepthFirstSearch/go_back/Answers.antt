@@ -2,7 +2,7 @@ use Rattle.std.proofs.Common.{rules, ◌≡◌, ◌≢◌, ◌∙◌, length, ap
 use Rattle.std.proofs.lemmas.Grind.{common_steps}
 use Rattle.std.proofs.lemmas.List.{get_or_read}
 use Rattle.inert.specs.Search.{Search, AreInternedItems}
-use Rattle.inert.proofs.parts.Tops.{walk_of, here, last}
+use Rattle.inert.proofs.parts.Tops.{here, last}
 use Rattle.inert.proofs.invariant.Standing.{last_low}
 use Rattle.inert.proofs.moves.Back.{popped, popped_size, popped_on, closed}
 use Rattle.inert.proofs.depth_first_search.DepthFirstSearch.go_back.Given.{Over}
@@ -18,8 +18,13 @@ module _ (g : Over) (c : After-pop g) where
       let roots = ap (λ w. w.roots) c.self.view_is in
       grind (arith, low, roots, c.len.ensures, c.self.inside.roots.ok.0, get_or_read, c.index-root.ensures)
 
-  remaining : let w = c.self.inside in
-      walk_of w.stages.items w.stack.items c.pop.new.self.items w.roots.items w.items.items ≡ popped c.args.self.now
+  remaining : let w = c.self.inside in let now : Search = record {
+    stages = w.stages.items;
+    stack = w.stack.items;
+    frames = c.pop.new.self.items;
+    roots = w.roots.items;
+    items = w.items.items;
+  } in now ≡ popped c.args.self.now
   remaining = search rules
 
 pub close-requires-clause-there : goal.close-requires-clause-there
@@ -37,4 +42,4 @@ returns-in_ok-close g c = let d = (goal.at.returns-in_ok-close g c).After-pop in
     let r = c.requires in
     let done = closed c.invariants.ensures.laws c.invariants.ensures.lts r.walks r.some r.read (ap (λ x. x.height)
     (sym (root g d)) ∙ c.if-root-frame.true ∙ ap (λ x. x.height) c.top_frame-frame.ensures) closes in
-    grind (arith, common_steps, done, closes.listed.grow, ap length closes.frames, popped_size r.walks, r.some)
+    grind (arith, common_steps, done, ap length closes.frames, popped_size r.walks, r.some)

@@ -7,8 +7,7 @@ use Rattle.lts.proofs.CallerLemmas.{price_none, price_one_more}
 use Rattle.inert.specs.Search.{Search, frame_at, top}
 use Rattle.inert.proofs.parts.Tops.{here}
 use Rattle.inert.specs.SearchMoves.{HandlesStep, ahead}
-use Rattle.inert.proofs.parts.Stages.{open_inside}
-use Rattle.inert.proofs.invariant.Standing.{on_stack}
+use Rattle.inert.proofs.invariant.Standing.{open_inside, on_stack}
 use Rattle.inert.proofs.moves.Reading.{Reads, Stays, Marked, marked, reads_none, next_ahead}
 use Rattle.inert.proofs.depth_first_search.DepthFirstSearch.read.Given.{Over}
 use Rattle.inert.proofs.depth_first_search.DepthFirstSearch.read.Goals as goal

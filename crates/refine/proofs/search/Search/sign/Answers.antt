@@ -16,5 +16,6 @@ returns-in-Ok-clause-signature g c =
     c.order.ensures.ascending
     (λ z. subst (λ xs. Contains zs z ↔ Contains xs z) (ap (λ f. f.pairs) c.self.view_is) (c.order.ensures.same z)))
 
-pub new-lens-requires-clause-visited : goal.new-lens-requires-clause-visited
-new-lens-requires-clause-visited g c = (none_visited c.args.l.now.places record { rounds = 0; visits = 0 } [] refl).are
+pub new-lens-requires : goal.new-lens-requires
+new-lens-requires g c = let none = none_visited c.args.l.now.places record { rounds = 0; visits = 0 } [] refl in
+    record { size = c.requires.blocks; visited = none.are }

@@ -1,7 +1,7 @@
 use Rattle.std.proofs.Common.{rules, refl, ◌∙◌, length, slice_index, ap, sym, subst, arith}
 use Rattle.std.proofs.lemmas.List.{take_at}
 use Rattle.theory.specs.declared.relation.Relation.TheVariants.{Branching}
-use Rattle.inert.specs.Signed.{IsIdIfChanged}
+use Rattle.inert.specs.Signed.{SignsActive}
 use Rattle.refine_core.specs.IndexState.{IsReadyToSign}
 use Rattle.refine_core.proofs.Signatures.{written_back}
 use Rattle.refine_core.proofs.CachedSignatures.{cached_beside, branching_signs}
@@ -13,9 +13,6 @@ sign_each-requires-clause-cached g c =
     c.invariants.ensures.system _ _ (ap (λ r. length r.blocks.block_ids) c.round.view_is ∙ c.requires.states)
     (subst (IsReadyToSign Branching c.args.l.now _) (sym c.round.view_is) c.requires.ready.1)
 
-pub sign_each-requires-clause-signatures : goal.sign_each-requires-clause-signatures
-sign_each-requires-clause-signatures g c = let keeps = c.requires.ready.1.cached refl in search (rules, keeps)
-
 pub sign_each-requires-clause-signature_ids : goal.sign_each-requires-clause-signature_ids
 sign_each-requires-clause-signature_ids g c = search (rules, c.deref_mut.ensures.value, c.round.invariant.0.none)
 
@@ -23,7 +20,7 @@ pub invariant_of-round : goal.invariant_of-round
 invariant_of-round g c =
     let old = c.round.inside.blocks in (
       written_back old.block_ids old.active c.sign_each.new.signatures c.sign_each.new.signature_ids _ _
-          c.in_ok-sign_each.ensures.signature_ids
+          c.in_ok-sign_each.ensures.signs.ids
           c.sign_each.ensures.others (omega (arith, c.round.invariant.0.states)) (omega arith),
       c.round.invariant.1,
     )
@@ -31,16 +28,13 @@ invariant_of-round g c =
 pub returns-clause-signed : goal.returns-clause-signed
 returns-clause-signed g c old ready =
     let l = c.args.l.now in
-    let done = c.in_ok-sign_each.ensures in
+    let r = c.round.inside in
     let have = c.invariants-3.ensures.have in
     let size = ap (λ r. length r.blocks.block_ids) c.round.view_is ∙ c.requires.states in
     branching_signs l (λ s a t. c.rows_are_steps.ensures.numbered l s a t c.invariants.ensures)
     c.invariants.ensures.system
     old _ size (subst (IsReadyToSign Branching l old) (sym c.round.view_is) ready)
-    _ _ _ c.invariants-3.ensures.signatures done.grow done.signatures.0 done.signatures.1
-    (rw size at c.invariants-3.ensures.active)
-    (have.states ∙ size) have.none done.signed
-    (λ s one. subst
-    (λ ns. IsIdIfChanged (slice_index c.round.inside.signer s) (slice_index c.sign_each.new.self s) (slice_index ns s))
-    (sym (take_at _ _ _ (omega (arith, c.sign_each.auto.signature_ids, c.deref_mut.ensures.len))))
-    (done.changed s one)) done.still
+    _ _ _ c.invariants-3.ensures.signatures
+    (subst (SignsActive l r.blocks.block_ids r.blocks.active r.signatures c.sign_each.new.signatures r.signer
+    c.sign_each.new.self) (sym (take_at _ _ _ (omega (arith, c.sign_each.auto.signature_ids, c.deref_mut.ensures.len))))
+    c.in_ok-sign_each.ensures.signs) (have.states ∙ size) have.none
