@@ -2,7 +2,7 @@
 -- state of the reader after each step, and justify each error that the reader returns.
 use Rattle.std.proofs.Common.{◌≡◌, ◌⊎◌, ◌↔◌, ⊎_elim, ℕ, ◌+◌, ◌<◌, ◌≤◌, true, List, [], ◌∷◌, ◌++◌, length, Option, Some}
 use Rattle.std.proofs.Common.{Contains, refl, sym, inl, inr, arith}
-use Rattle.std.proofs.lemmas.Slice.Zip.{AllZip-long}
+use Rattle.std.proofs.lemmas.Slice.Zip.{AllZip-long, all_zipped_more}
 use Rattle.std.proofs.lemmas.List.{append_assoc, length_push}
 use Rattle.std.proofs.lemmas.List.Elements.{All-nil, Contains-append_left, Contains-push, Contains-push_cases}
 use Rattle.std.specs.Io.KnownBytes.{IsAtEnd}
@@ -16,7 +16,6 @@ use Rattle.autfmt.specs.HideReaders.{IsHideFault, SameLabels, HidesAs}
 use Rattle.autfmt.specs.HideReadSoFar.{AddsLabel, HideReadSoFar}
 use Rattle.autfmt.specs.HideOutcomes.{HideRefuses}
 use Rattle.autfmt.specs.HideOutcomes.HideRefuses.{failed_source, faulty_text}
-use Rattle.autfmt.proofs.Lists.{AllZip-push}
 use Rattle.autfmt.proofs.HideLaws.{no_judged_hide_fault}
 use Rattle.autfmt.proofs.HasCut.{HasCut-line, HasCut-lines, HasCut-too_long, HasCut-end, HasCut-more, HasCut-part}
 use Rattle.autfmt.proofs.ReaderSteps.{if_told, none_to_come, fresh}
@@ -93,7 +92,7 @@ module _ {given : List ℕ} {old : Cutting} {H hidden : List (List ℕ)} (got : 
   hide_good now a hidden' goes_on cuts names added = record {
     lines = so_far.lines ++ now.line ∷ [];
     cut = HasCut-line given got so_far.lines old so_far.cut goes_on now cuts;
-    named = AllZip-push Hides so_far.lines H now.line a so_far.named names;
+    named = all_zipped_more Hides so_far.lines H now.line a so_far.named names;
     same = SameLabels-add hidden H a hidden' so_far.same added;
   }
 

@@ -24,15 +24,6 @@ begins_with at n run old new room short is =
     let some = take-take (at + n) (at + length run) new (omega arith) in
     cc (take-append-add (take at old) run n)
 
--- If two lists are related element by element, and the elements x and y are related, then the lists with x and y
--- appended are related too.
-pub AllZip-push :
-    {A B : Type 0} (R : A → B → Type 0) (xs : List A) (ys : List B) (x : A) (y : B) → AllZip R xs ys → R x y →
-    AllZip R (xs ++ x ∷ []) (ys ++ y ∷ [])
-AllZip-push R [] [] x y zipped r = (r, tt)
-AllZip-push R (a ∷ xs) (b ∷ ys) x y zipped r = (zipped.0, AllZip-push R xs ys x y zipped.1 r)
-AllZip-push R xs ys x y zipped r = grind arith
-
 -- If R x y implies P x, and two lists are related element by element by R, then the property P holds for each element
 -- of the first list.
 pub AllZip-firsts : {A B : Type 0} (R : A → B → Type 0) (P : A → Type 0) → ((x : A) (y : B) → R x y → P x) →

@@ -1,5 +1,5 @@
 -- Lemmas about writing lines to a sink (what an output is written to) through a buffer.
-use Rattle.std.proofs.Common.{Result, OnErr, ◌≡◌, ℕ, ◌+◌, ◌<◌, List, [], ◌++◌, length, map, get_or, take, drop, refl}
+use Rattle.std.proofs.Common.{◌≡◌, ℕ, ◌+◌, ◌<◌, List, [], ◌++◌, length, map, get_or, take, drop, refl}
 use Rattle.std.proofs.Common.{sym, ap, ◌∙◌, subst, Option, append_assoc, arith}
 use Rattle.std.specs.Io.KnownBytes.{Appends}
 use Rattle.std.proofs.KnownBytes.{Appends-nil, Appends-trans}
@@ -93,6 +93,3 @@ module _ (entries : List Entry) (source : ℕ) (row : List (ℕ × ℕ)) where
 pub label_at : (entries : List Entry) (r : ℕ) (d : Entry) → r < length entries →
     (get_or entries r d).0.now ≡ text_of (texts entries) r
 label_at entries r d h = sym (get_or-map (λ e. e.0.now) entries r d [] h)
-
-pub on_err : {T E P : Type 0} (r : Result T E) → P → OnErr r P
-on_err r p = grind arith

@@ -5,6 +5,7 @@ use Rattle.std.proofs.Common.{IfSome, Result, Ok, Err, IfOk, IfErr, MatchResult,
 use Rattle.std.proofs.Common.{arith, rules}
 use Rattle.std.proofs.lemmas.List.{append_assoc, append-nil}
 use Rattle.std.proofs.lemmas.List.Elements.{All-nil}
+use Rattle.std.proofs.lemmas.Slice.Zip.{all_zipped_more}
 use Rattle.std.specs.Io.KnownBytes.{IsAtEnd}
 use Rattle.theory.specs.System.{Transition, IsAmong}
 use Rattle.autfmt.specs.declared.fault.Fault.{Fault}
@@ -22,7 +23,6 @@ use Rattle.autfmt.specs.Readers.{IsTextFault, HasGoodHeader}
 use Rattle.autfmt.specs.Outcomes.{Refuses}
 use Rattle.autfmt.specs.ReadSoFar.{ReadSoFar, HeldSoFar, ReadsOneMore}
 use Rattle.autfmt.specs.Outcomes.Refuses.{no_memory, failed_source, faulty_text}
-use Rattle.autfmt.proofs.Lists.{AllZip-push}
 use Rattle.autfmt.proofs.FaultLaws.{Reads-from_lines}
 use Rattle.autfmt.proofs.JudgedLaws.{no_judged_header, no_judged_fault}
 use Rattle.autfmt.proofs.Holding.{Holds-length}
@@ -160,7 +160,7 @@ module _ {bounds : Bounds} {given : List ℕ} {old : Cutting} {p : Promise} {es 
     lines = so_far.lines ++ now.line ∷ [];
     cut = HasCut-line given got before old so_far.cut goes_on now cuts;
     good = so_far.good;
-    spelled = grind (arith, AllZip-push, p.states, so_far.lines, now.line, so_far.spelled, cuts.short);
+    spelled = grind (arith, all_zipped_more, p.states, so_far.lines, now.line, so_far.spelled, cuts.short);
   }
 
   -- If there is no memory for the next transition, the reader may return `Memory`.

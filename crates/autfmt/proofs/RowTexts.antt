@@ -8,7 +8,7 @@ use Rattle.std.proofs.lemmas.List.Sorted.{length_permutation}
 use Rattle.lts.specs.Lts.{Grouped, Triple, IsLts, before, row_of, transition_of, system_of, system_from}
 use Rattle.autfmt.specs.declared.wording.Words.{Words}
 use Rattle.autfmt.specs.Progress.{Progress}
-use Rattle.autfmt.specs.Ranks.{texts, ranked_pair, rank_cmp}
+use Rattle.autfmt.specs.Ranks.{texts, IsSortedRow}
 use Rattle.autfmt.specs.Stream.{AppendsPrefix}
 use Rattle.autfmt.specs.LabelTexts.{AreWords, from_source, written_lines}
 use Rattle.autfmt.specs.Written.{header_of, Text, GainsText, GainsPrefix}
@@ -63,17 +63,16 @@ module _ {g : Grouped} {words : Words} (lts : IsLts g) (are : AreWords g.labels 
   -- then the sink (what the output is written to) and the buffer together contain the lines of all rows up to and
   -- including this row.
   pub next_row : {old mid new : Option (List ℕ)} {waiting later : List ℕ} {s : ℕ} (row : List (ℕ × ℕ))
-      → RowsWait g words old mid waiting s → IsPermutation (map (ranked_pair words.ranks.items) (row_of s g.places)) row
-      → IsSorted rank_cmp row
+      → RowsWait g words old mid waiting s → IsSortedRow words.ranks.items (row_of s g.places) row
       → Progress mid new later (waiting ++ written_lines words.entries.items (map (from_source s) row))
       → RowsWait g words old new later (s + 1)
-  next_row {s = s} row rows same up put =
+  next_row {s = s} row rows is put =
       let added = map (from_source s) row in
       let lines = written_lines words.entries.items in
       let head = header_of g.first (length g.places) g.states in
       record {
         order = rows.order ++ added;
-        ordered = one_row_more words.ranks.items g.places lts.ascending s rows.order rows.ordered row same up;
+        ordered = one_row_more words.ranks.items g.places lts.ascending s rows.order rows.ordered row is;
         progress =
             rw (lines-append words.entries.items rows.order added, ← append_assoc head (lines rows.order) (lines added))
             (goes_on (waits_too (lines added) rows.progress) put);

@@ -6,6 +6,7 @@ use Rattle.theory.specs.System.{Transition, hidden_label, hidden_transition}
 use Rattle.lts.specs.Labels.{text_of, IsLabelId, KeepsLabels}
 use Rattle.lts.specs.Lts.{Triple, IsTriple, label_of, transition_of}
 use Rattle.autfmt.specs.declared.held.Held.{Held}
+use Rattle.autfmt.specs.declared.limits.TheConstants.{FILE_TRANSITIONS}
 
 -- `AddsTriple old now s a t` holds if one triple was added, which has the source s, the ID of the label a and the
 -- target t. The definition also requires that all labels in the table keep their IDs, and that no label other than a is
@@ -16,6 +17,14 @@ pub record AddsTriple (old now : Held) (s : ℕ) (a : List ℕ) (t : ℕ) : Type
   pub keeps : KeepsLabels old.labels now.labels
   pub known : (k : ℕ) → k < length now.labels → (k < length old.labels) ⊎ (k ≡ number)
   pub items : now.transitions ≡ old.transitions ++ (s, number, t) ∷ []
+
+-- `CanAdd held promised` holds if one more transition can be added to the stored transitions: fewer transitions are
+-- stored than the header has promised, the promised number is within the limit for files, and the label table has no
+-- more labels than there are transitions.
+pub record CanAdd (held : Held) (promised : ℕ) : Type 0 where
+  pub fewer : length held.transitions < promised
+  pub file : promised ≤ FILE_TRANSITIONS
+  pub few_labels : length held.labels ≤ length held.transitions
 
 -- `AreShown H labels` holds if hiding the labels in the list H changes no label of the label table.
 abbrev pub AreShown : List (List ℕ) → (labels : List (List ℕ)) → Type 0

@@ -15,8 +15,11 @@ pub record HideReadsTo (given : List ℕ) (rest : Option (List ℕ)) (failures :
   pub at_end : IsAtEnd rest
   pub sound : failures ≡ 0
 
--- `HideRefuses` states why reading a hide list (the labels to hide) returns no labels: the list has an error, the
--- source (what the list is read from) has failed, or an allocation has failed.
+-- `HideRefuses` states why reading a hide list (the labels to hide) returns no labels. There are three reasons: the
+-- list has an error, the source (what the list is read from) has failed, or an allocation has failed. If the list has
+-- an error, and the contract of the source states which bytes it contains, then the error that is returned is the first
+-- error of the whole list. After a failure of the source, the bytes that were read must not determine an error of the
+-- list (`JudgedHideFault`).
 pub data HideRefuses (given : List ℕ) (rest : Option (List ℕ)) (failures : ℕ) (fault : Fault) : Type 0 where
   faulty_text : failures ≡ 0 → IsHideFault fault → IfSome rest (λ more. FirstHideFault (given ++ more) fault) →
       HideRefuses given rest failures fault

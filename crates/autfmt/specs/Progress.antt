@@ -1,6 +1,7 @@
 -- Bytes that are written to a sink (what an output is written to) through a buffer.
-use Rattle.std.specs.Prelude.{◌≡◌, ℕ, List, ◌++◌, Option}
+use Rattle.std.specs.Prelude.{◌≡◌, ℕ, List, ◌++◌, take, Option, Result, MatchResult}
 use Rattle.std.specs.Io.KnownBytes.{Appends}
+use Rattle.autfmt.specs.Stream.{AppendsPrefix}
 
 -- `Progress old new waiting bytes` holds if a prefix of `bytes` was written to the sink (what the output is written
 -- to), and the buffer contains the other bytes (`waiting`).
@@ -8,3 +9,10 @@ pub record Progress (old new : Option (List ℕ)) (waiting bytes : List ℕ) : T
   pub front : List ℕ
   pub gained : Appends old new front
   pub whole : bytes ≡ front ++ waiting
+
+-- `PutsThrough old new result buffer bytes` holds if a call has sent `bytes` to the sink (what an output is written to)
+-- through a buffer. After success, a prefix of `bytes` was written, and the other bytes are at the beginning of the
+-- buffer. The result is their number. After an error, a prefix of `bytes` was written.
+abbrev pub PutsThrough : {E : Type 0} → Option (List ℕ) → Option (List ℕ) → Result ℕ E → List ℕ → List ℕ → Type 0
+PutsThrough old new result buffer bytes =
+    MatchResult result (λ n. Progress old new (take n buffer) bytes) (λ _. AppendsPrefix old new bytes)

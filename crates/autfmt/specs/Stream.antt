@@ -12,3 +12,8 @@ CountsFailure result failures = MatchResult result (λ _. failures ≡ 0) (λ _.
 -- If the contract of the sink does not state which bytes it contains, the definition does not restrict these bytes.
 abbrev pub AppendsPrefix : Option (List ℕ) → Option (List ℕ) → List ℕ → Type 0
 AppendsPrefix old new bs = (front back : List ℕ) × (bs ≡ front ++ back) × Appends old new front
+
+-- `PutsAll old new result bs` holds if a call has added the bytes bs to the sink (what the output is written to): all
+-- of these bytes if the call succeeded, and a prefix of them if the call failed.
+abbrev pub PutsAll : {T E : Type 0} → Option (List ℕ) → Option (List ℕ) → Result T E → List ℕ → Type 0
+PutsAll old new result bs = MatchResult result (λ _. Appends old new bs) (λ _. AppendsPrefix old new bs)

@@ -1,5 +1,5 @@
 -- The text that is written for a system, which is the content of a `.aut` file.
-use Rattle.std.specs.Prelude.{◌≡◌, ℕ, List, ◌++◌, length, codes, decimal, if◌then◌else◌, Option, Result, Err}
+use Rattle.std.specs.Prelude.{◌≡◌, ℕ, List, ◌++◌, length, codes, decimal, if◌then◌else◌, Option, Result, Err, MatchResult}
 use Rattle.std.specs.Io.KnownBytes.{Appends}
 use Rattle.std.specs.List.{flat_map}
 use Rattle.std.specs.List.Sorted.{IsPermutation, IsSorted}
@@ -62,6 +62,11 @@ GainsText A old new = (text : List ℕ) × Text A text × Appends old new text
 -- `GainsPrefix` does not restrict these bytes.
 abbrev pub GainsPrefix : System → Option (List ℕ) → Option (List ℕ) → Type 0
 GainsPrefix A old new = (front back : List ℕ) × Text A (front ++ back) × Appends old new front
+
+-- `WritesText A old new result` holds if a call has written the text of the system A to the sink (what an output is
+-- written to): the whole text if the call succeeded, and a prefix of the text if the call failed.
+abbrev pub WritesText : {T E : Type 0} → System → Option (List ℕ) → Option (List ℕ) → Result T E → Type 0
+WritesText A old new result = MatchResult result (λ _. GainsText A old new) (λ _. GainsPrefix A old new)
 
 -- `failures_after result` is the number of failures of a sink (what the output is written to) after a call of `write`,
 -- depending on the result of this call. This number is correct only if the sink had not failed before the call.

@@ -4,9 +4,8 @@ ghost use Rattle.std.specs.Prelude.{◌≡◌, ◌+◌, ◌<◌, ◌≤◌, ◌�
 ghost use Rattle.std.specs.Prelude.{MatchResult};
 ghost use Rattle.theory.specs.System.{IsLabel, hidden_label};
 ghost use Rattle.memory.specs.declared.limits.TheConstants.{MOST_LABELS};
-ghost use Rattle.autfmt.specs.declared.limits.TheConstants.{FILE_TRANSITIONS};
 ghost use Rattle.lts.specs.Labels.{IsLabelId, Interns, KeepsLabels};
-ghost use Rattle.autfmt.specs.Held.{AddsTriple, AreShown};
+ghost use Rattle.autfmt.specs.Held.{AddsTriple, AreShown, CanAdd};
 
 use crate::digits::word_in_front;
 use crate::hidden::Hidden;
@@ -76,9 +75,7 @@ impl Held {
         h: &Hidden,
     ) -> Result<(), Memory>
         requires label { IsLabel read.1.now }
-        requires few { length self.old.labels ≤ length self.old.transitions }
-        requires promised { length self.old.transitions < promised }
-        requires file { promised ≤ FILE_TRANSITIONS }
+        requires room { CanAdd self.old promised }
         ensures added { AreShown h.now self.old.labels → OnOk result
             (AddsTriple self.old self.new read.entry.0 (hidden_label h.now read.entry.1.now)
             read.entry.2) }
@@ -97,9 +94,7 @@ impl Held {
         promised: u32,
         h: &Hidden,
     ) -> Result<bool, Memory>
-        requires few { length self.old.labels ≤ length self.old.transitions }
-        requires promised { length self.old.transitions < promised }
-        requires file { promised ≤ FILE_TRANSITIONS }
+        requires { CanAdd self.old promised }
         ensures label { MatchResult result (λ added. IsTrue added ↔ IsLabel read.entry.1.now)
             (λ _. IsLabel read.entry.1.now) }
         ensures added { AreShown h.now self.old.labels → IfOk result (λ added. IsTrue added →

@@ -8,6 +8,7 @@ ghost use Rattle.autfmt.specs.declared.limits.TheConstants.{FILE_STATES, FILE_TR
 ghost use Rattle.autfmt.specs.Bounds.{Bounds};
 ghost use Rattle.autfmt.specs.Cutter.{Feeds};
 ghost use Rattle.autfmt.specs.Faults.{FirstFault};
+ghost use Rattle.autfmt.specs.Held.{CanAdd};
 ghost use Rattle.autfmt.specs.Readers.{IsTextFault, ReadsAs};
 ghost use Rattle.autfmt.specs.ReadSoFar.{ReadSoFar, HeldSoFar, ReadsOneMore, HoldsText};
 ghost use Rattle.autfmt.specs.Outcomes.{Takes, Refuses, AnswersRead};
@@ -190,9 +191,7 @@ fn read_usual(
     h: &Hidden,
     held: &mut Held,
 ) -> Result<bool, Memory>
-    requires file { promise.transitions ≤ FILE_TRANSITIONS }
-    requires promised { length held.old.transitions < promise.transitions }
-    requires few { length held.old.labels ≤ length held.old.transitions }
+    requires { CanAdd held.old promise.transitions }
     ensures taken { IfOk result (λ taken. IsTrue taken →
         ReadsOneMore h.now promise [] (cutter.old, held.old) (cutter.new, held.new)) }
     ensures none { IfOk result
@@ -228,9 +227,7 @@ fn read_transition<R: Source>(
     h: &Hidden,
     held: &mut Held,
 ) -> Result<(), Fault>
-    requires file { promise.transitions ≤ FILE_TRANSITIONS }
-    requires promised { length held.old.transitions < promise.transitions }
-    requires few { length held.old.labels ≤ length held.old.transitions }
+    requires room { CanAdd held.old promise.transitions }
     requires source { Feeds (R.rest r.old) (R.failures r.old) cutter.old }
     ensures transition { (got : List ℕ) × Consumes (R.rest r.old) (R.rest r.new) got ×
         ((bounds : Bounds) (given : List ℕ) (es : List Transition) →

@@ -1,9 +1,9 @@
 use Rattle.std.proofs.Common.{◌≡◌, ◌<◌, length, sym, ap, ◌∙◌, subst, arith, rules}
 use Rattle.std.specs.List.{All}
-use Rattle.std.proofs.lemmas.Result.{on_ok_weaker, on_err_weaker}
+use Rattle.std.proofs.lemmas.Result.{err_from_is_err_and, MatchResult-weaker}
 use Rattle.lts.specs.Lts.{before}
 use Rattle.autfmt.proofs.ByRank.{row_ranks_below}
-use Rattle.autfmt.proofs.Progress.{nothing_put, on_err}
+use Rattle.autfmt.proofs.Progress.{nothing_put}
 use Rattle.autfmt.proofs.RowTexts.{no_row, next_row, rows_begun, rows_put}
 use Rattle.autfmt.proofs.writer.put_system.Goals as goal
 
@@ -23,15 +23,15 @@ pub put_row-requires-clause-ranks : goal.put_row-requires-clause-ranks
 put_row-requires-clause-ranks g c =
     subst (All (λ p. p.0 < length c.args.words.now.entries.items)) (sym c.deref-transitions.ensures.value)
     (row_ranks_below c.loop-source.source c.invariants.ensures c.requires.words.by_bytes c.requires.words.ranks
-    (rw c.deref.ensures.value at c.read_row.ensures.same))
+    (rw c.deref.ensures.value at c.read_row.ensures.row).same)
 
-pub returns-in_err-waiting-clause-err : goal.returns-in_err-waiting-clause-err
-returns-in_err-waiting-clause-err g c =
+pub returns-in_err-waiting-clause-text : goal.returns-in_err-waiting-clause-text
+returns-in_err-waiting-clause-text g c =
     let row = next_row c.invariants.ensures c.requires.words c.read_row.new.row.items c.loop-source.invariant.rows
-    (rw c.deref.ensures.value at c.read_row.ensures.same) c.read_row.ensures.sorted (nothing_put _ _) in
-    on_err c.from_residual.result (rows_begun c.invariants.ensures c.requires.words (g.W.Sink.written c.put_row.new.w)
-    row
-    (rw c.deref-transitions.ensures.value at c.in_err-waiting.ensures.err))
+    (rw c.deref.ensures.value at c.read_row.ensures.row) (nothing_put _ _) in
+    let p = err_from_is_err_and c.from_residual.result c.from_residual.ensures.1 in
+    rw p.1 (rows_begun c.invariants.ensures c.requires.words (g.W.Sink.written c.put_row.new.w) row
+    (rw c.deref-transitions.ensures.value at c.in_err-waiting.ensures.lines))
 
 pub loop-source-preserved : goal.loop-source-preserved
 loop-source-preserved g c =
@@ -39,23 +39,21 @@ loop-source-preserved g c =
     record {
       rows =
           next_row c.invariants.ensures c.requires.words c.read_row.new.row.items c.loop-source.invariant.rows
-          (rw c.deref.ensures.value at c.read_row.ensures.same) c.read_row.ensures.sorted
-          (rw c.deref-transitions.ensures.value at c.in_ok-waiting.ensures.ok);
+          (rw c.deref.ensures.value at c.read_row.ensures.row)
+          (rw c.deref-transitions.ensures.value at c.in_ok-waiting.ensures.lines);
       within = c.in_ok-waiting.ensures.waiting;
       sound = c.in_ok-waiting.ensures.failures;
       capacity = c.read_row.ensures.capacity ∙ c.loop-source.invariant.capacity;
       visits = search rules;
     }
 
-pub returns-clause-ok : goal.returns-clause-ok
-returns-clause-ok g c =
+pub returns-clause-text : goal.returns-clause-text
+returns-clause-text g c =
     let last : c.loop-source.source ≡ c.args.s.now.states = omega arith in
     let all =
     ap (λ n. before n c.args.s.now.places) last ∙ c.rows_follow.ensures.all c.args.s.now c.invariants.ensures in
-    on_ok_weaker c.put_last.result (rows_put c.invariants.ensures c.requires.words (g.W.Sink.written c.put_last.new.w)
-    all
-    c.loop-source.invariant.rows) c.put_last.ensures.ok
-
-pub returns-clause-err : goal.returns-clause-err
-returns-clause-err g c = on_err_weaker c.put_last.result (rows_begun c.invariants.ensures c.requires.words
-    (g.W.Sink.written c.put_last.new.w) c.loop-source.invariant.rows) c.put_last.ensures.err
+    let rows = c.loop-source.invariant.rows in
+    let new = g.W.Sink.written c.put_last.new.w in
+    MatchResult-weaker c.put_last.result c.put_last.ensures.bytes
+    (λ _. rows_put c.invariants.ensures c.requires.words new all rows)
+    (λ _. rows_begun c.invariants.ensures c.requires.words new rows)
