@@ -19,8 +19,8 @@
 //! The first rounds process every state that has a transition. States in singleton blocks are dropped from the
 //! processed states each time that the number of singleton blocks has grown by more than 1/32 of the number of
 //! processed states. A round is late if fewer than a quarter of the blocks are new. When the late rounds have taken
-//! about as much time as it takes to build the predecessor index (`lts::Incoming`), the index is built. For each state,
-//! the predecessor index has the places of the transitions that lead to this state. The place of a transition is its
+//! at most about twice as much time as it takes to build the predecessor index (`lts::Incoming`), the index is built.
+//! For each state, the predecessor index has the places of the transitions that lead to this state. The place of a transition is its
 //! index in the list of all transitions. After the index was built, each round begins with a search that goes backwards
 //! from the states of new blocks (`predecessors`):
 //!

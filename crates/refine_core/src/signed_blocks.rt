@@ -24,16 +24,16 @@ use std::marker::Model;
 /// all blocks divided by `LATE_ROUND_FRACTION`. The rounds after a late round usually have few states to process.
 const LATE_ROUND_FRACTION: u32 = 4;
 
-/// The predecessor index is built as soon as the late rounds so far (rounds in which few blocks are new) have done as
-/// much work as this number of rounds that process all states. If states have many transitions, building the index takes
-/// as much time as three rounds that process all states.
-const MOST_LATE_ROUNDS: u32 = 6;
+/// A round is late if few blocks are new. The predecessor index is built in the first late round for which the late
+/// rounds before it have done as much work as this number of rounds that process all states. If states have many
+/// transitions, building the index takes as much time as three rounds that process all states.
+const MOST_FULL_ROUNDS: u32 = 6;
 
 /// If states have few transitions, building the predecessor index takes less time, so the index is built after less work.
-/// The index is then built as soon as the late rounds so far (rounds in which few blocks are new) have done as much work
-/// as n rounds that process all states. The number n is the average number of transitions of a state, divided by
-/// `ROW_LENGTH_PER_LATE_ROUND`.
-const ROW_LENGTH_PER_LATE_ROUND: u32 = 2;
+/// Let n be the average number of transitions of a state, divided by `ROW_LENGTH_PER_FULL_ROUND`. The index is built in
+/// the first late round (a round in which few blocks are new) for which the late rounds before it have done as much work
+/// as n rounds that process all states.
+const ROW_LENGTH_PER_FULL_ROUND: u32 = 2;
 
 /// A round without a predecessor index goes through all blocks. Going through this number of blocks takes less time than
 /// processing one state.
@@ -188,7 +188,8 @@ impl SignedBlocks {
         Ok(self)
     }
 
-    /// Builds the predecessor index if `needs_index` says so. If the index is built, each transition is visited (read and
+    /// Builds the predecessor index if few blocks are new in this round, and if the earlier rounds in which few blocks
+    /// were new have done enough work (`needs_index`). If the index is built, each transition is visited (read and
     /// counted) once, and all interned signatures except the empty signature are discarded.
     pub fn begin_index<M: Meter>(
         mut self,
@@ -224,15 +225,15 @@ impl SignedBlocks {
         })
     }
 
-    /// Returns whether this round has to build the predecessor index. A round is late if fewer than a quarter of the
-    /// blocks are new (made by the last split). The work of a late round without an index is the number of states that
-    /// it processes, plus the number of blocks divided by `BLOCKS_PER_STATE`. Let n be half of the average number of
-    /// transitions of a state (rounded down), but at most `MOST_LATE_ROUNDS`. A late round has to build the index if the
-    /// work of all late rounds before it is at least n times the number of all states. Otherwise the function adds the
-    /// work of this round to this sum.
+    /// Returns whether this round has to build the predecessor index. If a late round does not have to build the index,
+    /// the call adds the work of this round to `late_work`. A round is late if fewer than a quarter of the blocks are new
+    /// (made by the last split). The work of a late round without an index is the number of states that it processes,
+    /// plus the number of blocks divided by `BLOCKS_PER_STATE`.
     ///
-    /// So all late rounds without an index take about as much time together as building the index. If most states are
-    /// in singleton blocks, a round processes few states, and the index is built later or never.
+    /// Let n be half of the average number of transitions of a state (rounded down), but at most `MOST_FULL_ROUNDS`. A
+    /// late round has to build the index if the work of all late rounds before it is at least n times the number of all
+    /// states. So all late rounds without an index together take at most about twice as long as building the index. If
+    /// most states are in singleton blocks, a round processes few states, and the index is built later or never.
     fn needs_index<M: Meter>(&mut self, l: &Lts<M>) -> bool
         ensures { self.new ≡ self.old }
     {
@@ -241,7 +242,7 @@ impl SignedBlocks {
             return false;
         }
         let mean_row = l.edges() / l.states();
-        let most = MOST_LATE_ROUNDS.min(mean_row / ROW_LENGTH_PER_LATE_ROUND);
+        let most = MOST_FULL_ROUNDS.min(mean_row / ROW_LENGTH_PER_FULL_ROUND);
         if self.late_work / u64::from(l.states()) >= u64::from(most) {
             return true;
         }
