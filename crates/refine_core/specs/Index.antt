@@ -50,8 +50,8 @@ IsInner reach l of p = (reach ≡ Back)
 abbrev pub IsSearchIndex : Grouped → List ℕ → SearchIndex → Type 0
 IsSearchIndex l of e = IsIndex l (IsInner e.reach l of) e.index
 
--- `HasIndex` holds if the list `of` has the block ID of each state of the system `l`, and if `e` has a predecessor index
--- of this system (`IsSearchIndex`). A search in this index goes back along transitions as far as `reach` says.
+-- `HasIndex` holds if the list `of` has the block ID of each state of the system `l`, and if `e` has a predecessor
+-- index of this system (`IsSearchIndex`). A search in this index goes back along transitions as far as `reach` says.
 pub record HasIndex (reach : Reach) (l : Grouped) (of : List ℕ) (e : SearchIndex) : Type 0 where
   pub states : length of ≡ l.states
   pub index : IsSearchIndex l of e
@@ -139,8 +139,8 @@ pub record AreMarked (marks : List Bool) (found : List ℕ) : Type 0 where
   pub all : (s : ℕ) → IsTrue (slice_index_or marks s false) → IsMember found s
   pub once : IsDistinct (λ s t. s == t) found
 
--- `MarksFound` holds if each of the `states` states has a mark, and if the marked states are exactly the states that the
--- search has found so far.
+-- `MarksFound` holds if each of the `states` states has a mark, and if the marked states are exactly the states that
+-- the search has found so far.
 pub record MarksFound (states : ℕ) (at : Affected) : Type 0 where
   pub size : length at.marks.items ≡ states
   pub marked : AreMarked at.marks.items at.states.items
@@ -156,8 +156,8 @@ pub record SearchIsOn (l : Grouped) (of : List ℕ) (reach : Reach) (start now :
   pub visited : HasVisited l.places start now xs
   pub room : HasRoomFor start 0 (length l.places)
 
--- `ReadsRows` holds if `of` has a block ID for each state, and if `visited` has the places (indices) of transitions that
--- were visited in this round. A round needs both facts in order to read the transitions of a state.
+-- `ReadsRows` holds if `of` has a block ID for each state, and if `visited` has the places (indices) of transitions
+-- that were visited in this round. A round needs both facts in order to read the transitions of a state.
 pub record ReadsRows (l : Grouped) (of visited : List ℕ) : Type 0 where
   pub states : length of ≡ l.states
   pub are : AreVisited l.places visited

@@ -55,10 +55,11 @@ RestartsOrSearches (Searched e) rel l old r = Restarts l r.blocks r.signatures r
 RestartsOrSearches (Pending e) rel l old r =
     ¬ (old ≡ None) × (rel ≡ Branching → CachesIds l r.blocks.block_ids r.signatures r.cached old)
 
--- `Awaits` holds if r, the data of a round (`Signed`), is ready for a new round. Each state must have a block ID, and the
--- blocks of r must result from the blocks `old` of the last round (`Follows`). If there is a predecessor index, a search of this index must be pending,
--- or the round must process all states again (`RestartsOrSearches`). If there is no predecessor index, each state must
--- be active (processed by the round), be in a singleton block, or have no transition (`AreAllActiveOrIndexed`).
+-- `Awaits` holds if r, the data of a round (`Signed`), is ready for a new round. Each state must have a block ID, and
+-- the blocks of r must result from the blocks `old` of the last round (`Follows`). If there is a predecessor index, a
+-- search of this index must be pending, or the round must process all states again (`RestartsOrSearches`). If there is
+-- no predecessor index, each state must be active (processed by the round), be in a singleton block, or have no
+-- transition (`AreAllActiveOrIndexed`).
 pub record Awaits (rel : Relation) (l : Grouped) (r : Signed) : Type 0 where
   pub states : length r.blocks.block_ids ≡ l.states
   pub old : Option (List ℕ)
@@ -80,8 +81,8 @@ pub record IsReadyToSign (rel : Relation) (l : Grouped) (old : Option (List ℕ)
   pub cached : rel ≡ Branching → CachesIds l r.blocks.block_ids r.signatures r.cached old
   pub empty : rel ≡ Branching → old ≡ None → (s : ℕ) → slice_index r.cached s ≡ 0
 
--- `IsInRound` is about r, the data of a round (`Signed`) that has begun. The round started with the blocks `p`, and only
--- the active states (the states that the round processes) may differ from those in `p`. If there is a predecessor
+-- `IsInRound` is about r, the data of a round (`Signed`) that has begun. The round started with the blocks `p`, and
+-- only the active states (the states that the round processes) may differ from those in `p`. If there is a predecessor
 -- index, it must be an index of the system `l`, and otherwise all states must be active unless their signatures cannot
 -- change a block (`AreAllActiveOrIndexed`). The list `old` has the block IDs in the last round, and the condition `At`
 -- must hold for it and r.
@@ -157,8 +158,8 @@ pub record SignsEach (rel : Relation) (l : Grouped) (old : Option (List ℕ)) (r
   pub cached : rel ≡ Branching → CachesIds l r.blocks.block_ids r.signatures r.cached (Some r.blocks.block_ids)
 
 -- `SignsRound` holds if r results from p by computing the signatures of the active states. The blocks and the
--- predecessor index must be the same. If p was ready for computing the signatures, whatever the blocks of the last round
--- were, then the signatures in r must be correct (`SignsEach`).
+-- predecessor index must be the same. If p was ready for computing the signatures, whatever the blocks of the last
+-- round were, then the signatures in r must be correct (`SignsEach`).
 pub record SignsRound (rel : Relation) (l : Grouped) (p r : Signed) : Type 0 where
   pub blocks : r.blocks ≡ p.blocks
   pub index_state : r.index_state ≡ p.index_state

@@ -19,5 +19,5 @@ returns-clause-next g c =
     let signed = c.in_ok-signed.ensures.signed in
     let labelled : Labelled l = λ s a t. c.rows_are_steps.ensures.numbered l s a t c.invariants.ensures in
     rw signed.blocks at (is_next rel l c.invariants.ensures labelled c.args.round.blocks c.in_ok-signed.signed
-    c.in_ok-next.next c.invariants-2.ensures.blocks (ap (λ p. length p.block_ids) signed.blocks ∙ c.requires.ready_for_round.states)
-    signed c.in_ok-next.ensures)
+    c.in_ok-next.next c.invariants-2.ensures.blocks
+    (ap (λ p. length p.block_ids) signed.blocks ∙ c.requires.ready_for_round.states) signed c.in_ok-next.ensures)

@@ -4,7 +4,9 @@ use Rattle.refine_core.proofs.Signatures.{fits_either, split_fits}
 use Rattle.refine_core.proofs.IndexStates.{split_of, keeps_index_either}
 use Rattle.refine_core.proofs.signed_blocks.SignedBlocks.split.Goals as goal
 
-both : {T E : Type 0} {P Q R : T → Type 0} (r : Result T E) → IfOk r P → IfOk r Q → ((x : T) → P x → Q x → R x) → IfOk r R
+-- If a call ensures P and Q of its value, and R follows from both, then it ensures R.
+both : {T E : Type 0} {P Q R : T → Type 0} (r : Result T E) → IfOk r P → IfOk r Q → ((x : T) → P x → Q x → R x)
+    → IfOk r R
 both (Ok x) p q follows = follows x p q
 both (Err e) p q follows = tt
 
@@ -24,7 +26,8 @@ returns-in-Absent g c = split_of c.self.view_is c.invariants.ensures c.self.inva
     c.in_ok-blocks.ensures refl (rw c.in-Absent.is (refl, c.in_ok-blocks.ensures.active))
 
 pub returns-then-stored-round : goal.returns-then-stored-round
-returns-then-stored-round g c = both c.activate_all.result c.activate_all.ensures.blocks c.activate_all.ensures.activates
+returns-then-stored-round g c = let next = c.activate_all.ensures in
+    both c.activate_all.result next.blocks next.activates
     (λ r blocks all. split_of c.self.view_is c.invariants.ensures c.self.invariant.0 c.deref.ensures.value
     c.in_ok-blocks.ensures blocks (keeps_index_either _ _ _ _ _ c.in-Searched.is (inr all)))
 
