@@ -62,8 +62,8 @@ abbrev pub IsFoundOrSingleton : List ℕ → List ℕ → ℕ → Type 0
 IsFoundOrSingleton of found s = IsMember found s ⊎ IsSingleton of s
 
 -- `IsAsked` holds for the transition at the place (index) p if the search has to find its source. The argument `block`
--- is `None` or a block. For `None`, the search has to find each source. For a block, it has to find the sources in this
--- block of internal transitions.
+-- is `None` or a block. For `None`, the search has to find each source. For a block, it has to find the sources of
+-- internal transitions, if these sources are in this block.
 abbrev pub IsAsked : Option ℕ → Grouped → List ℕ → ℕ → Type 0
 IsAsked block l of p = IfSome block (λ b. text_of l.labels (label_of (place_at l.places p)) ≡ internal)
     × IfSome block (λ b. slice_index of (source_of (place_at l.places p)) ≡ b)
@@ -110,10 +110,10 @@ ranges_of (Some b) x = x.internal
 abbrev pub IsNotLookedUp : List Triple → List ℕ → ℕ → Type 0
 IsNotLookedUp places visited t = All (λ k. ¬ (target_of (place_at places k) ≡ t)) visited
 
--- `HasLookedUp` holds if the search has looked up the entries for the transitions to the state t, and no others. The
--- search had found the states in `before` and had visited the places in `old` before these lookups. Afterwards, it has
--- found the states in `found`, among them the sources for which it asks (`FindsSources`), and has visited the places in
--- `visited`.
+-- `HasLookedUp` holds if a step of the search for the state t has found the sources for which it asks (`FindsSources`),
+-- has kept the states that were found before, and has looked up transitions to no other state. Before the step, the
+-- search had found the states in `before`, and had visited the places in `old`. After the step, it has found the states
+-- in `found`, and has visited the places in `visited`.
 pub record HasLookedUp (block : Option ℕ) (l : Grouped) (of : List ℕ) (t : ℕ) (before found old visited : List ℕ) :
     Type 0 where
   pub more : StartsWith found before
@@ -157,7 +157,7 @@ pub record SearchIsOn (l : Grouped) (of : List ℕ) (reach : Reach) (start now :
   pub room : HasRoomFor start 0 (length l.places)
 
 -- `ReadsRows` holds if `of` has a block ID for each state, and if `visited` has the places (indices) of transitions
--- that were visited in this round. A round needs both facts in order to read the transitions of a state.
+-- that were visited in this round (`AreVisited`). A round needs both facts in order to read the transitions of a state.
 pub record ReadsRows (l : Grouped) (of visited : List ℕ) : Type 0 where
   pub states : length of ≡ l.states
   pub are : AreVisited l.places visited

@@ -84,17 +84,17 @@ pub record IsReadyToSign (rel : Relation) (l : Grouped) (old : Option (List ℕ)
 -- `IsInRound` is about r, the data of a round (`Signed`) that has begun. The round started with the blocks `p`, and
 -- only the active states (the states that the round processes) may differ from those in `p`. If there is a predecessor
 -- index, it must be an index of the system `l`, and otherwise all states must be active unless their signatures cannot
--- change a block (`AreAllActiveOrIndexed`). The list `old` has the block IDs in the last round, and the condition `At`
--- must hold for it and r.
-pub record IsInRound (At : Relation → Grouped → Option (List ℕ) → Signed → Type 0) (rel : Relation) (l : Grouped)
+-- change a block (`AreAllActiveOrIndexed`). The list `old` has the block IDs in the last round. The condition `Stage`
+-- says how far the round has come, and must hold for `old` and r.
+pub record IsInRound (Stage : Relation → Grouped → Option (List ℕ) → Signed → Type 0) (rel : Relation) (l : Grouped)
     (p : RoundBlocks) (r : Signed) : Type 0 where
   pub old : Option (List ℕ)
   pub blocks : r.blocks ≡ record p { active = r.blocks.active }
   pub index : AreAllActiveOrIndexed r.index_state rel l r.blocks
-  pub is : At rel l old r
+  pub stage : Stage rel l old r
 
--- `IsBegun` holds if a round that started with the blocks `p` is ready for computing the signatures of its active
--- states.
+-- `IsBegun` holds if a round that started with the blocks `p` (`IsInRound`) is ready for computing the signatures of its
+-- active states (`IsReadyToSign`).
 abbrev pub IsBegun : Relation → Grouped → RoundBlocks → Signed → Type 0
 IsBegun rel l p r = IsInRound IsReadyToSign rel l p r
 
@@ -158,14 +158,15 @@ pub record SignsEach (rel : Relation) (l : Grouped) (old : Option (List ℕ)) (r
   pub cached : rel ≡ Branching → CachesIds l r.blocks.block_ids r.signatures r.cached (Some r.blocks.block_ids)
 
 -- `SignsRound` holds if r results from p by computing the signatures of the active states. The blocks and the
--- predecessor index must be the same. If p was ready for computing the signatures, whatever the blocks of the last
--- round were, then the signatures in r must be correct (`SignsEach`).
+-- predecessor index must be the same. For any blocks `old` of the last round, the signatures in r must be correct
+-- (`SignsEach`) if p was ready for computing them (`IsReadyToSign`).
 pub record SignsRound (rel : Relation) (l : Grouped) (p r : Signed) : Type 0 where
   pub blocks : r.blocks ≡ p.blocks
   pub index_state : r.index_state ≡ p.index_state
   pub signs : (old : Option (List ℕ)) → IsReadyToSign rel l old p → SignsEach rel l old r
 
--- `IsSignedRound` holds if a round that started with the blocks `p` has computed the signatures of its active states.
+-- `IsSignedRound` holds if a round that started with the blocks `p` (`IsInRound`) has computed the signatures of its
+-- active states (`SignsEach`).
 abbrev pub IsSignedRound : Relation → Grouped → RoundBlocks → Signed → Type 0
 IsSignedRound rel l p r = IsInRound SignsEach rel l p r
 

@@ -12,7 +12,7 @@ use Rattle.signatures.specs.declared.nodes.TheConstants.{MOST_LISTS}
 abbrev pub pair_cmp : ℕ × ℕ → ℕ × ℕ → Ordering
 pair_cmp p q = ordering_then (nat_cmp p.0 q.0) (nat_cmp p.1 q.1)
 
--- Returns the list with the ID k, or the empty list if no list has this ID.
+-- Returns the list at the index (ID) k, or the empty list if there is no list at this index.
 abbrev pub list_at : List (List (ℕ × ℕ)) → ℕ → List (ℕ × ℕ)
 list_at lists k = slice_index_or lists k []
 
