@@ -157,8 +157,8 @@ pub record IsAtRest (u : Under) (signatures : List (List (ℕ × ℕ))) (w : Sea
   pub empty : w ≡ nothing w.stages
   pub walks : SearchInvariant u signatures w
 
--- `ReturnsToRest` holds if the search has gone on from `old` to `new` (`GoesOn`), and no search is in progress at `new`:
--- the stack and all other lists of the search are empty.
+-- `ReturnsToRest` holds if the search has gone on from `old` to `new` (`GoesOn`), and no search is in progress at
+-- `new`: the stack and all other lists of the search are empty.
 pub record ReturnsToRest (u : Under) (before signatures : List (List (ℕ × ℕ))) (old new : Search) : Type 0 where
   pub empty : new ≡ nothing new.stages
   pub on : GoesOn u before signatures old new

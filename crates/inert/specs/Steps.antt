@@ -38,9 +38,9 @@ pub record FitsSystem (u : Under) : Type 0 where
   pub size : length u.blocks ≡ u.l.states
   pub visited : AreVisited u.l.places u.visited
 
--- `Sees` is the invariant of a `Lens`, which is a view of a system. It holds if the blocks and the visited places belong
--- to the system (`FitsSystem`). Moreover, `id` must be the ID of the internal label, or `None` if the label table does
--- not contain the internal label.
+-- `Sees` is the invariant of a `Lens`, which is a view of a system. It holds if the blocks and the visited places
+-- belong to the system (`FitsSystem`). Moreover, `id` must be the ID of the internal label, or `None` if the label
+-- table does not contain the internal label.
 pub record Sees (u : Under) (id : Option ℕ) : Type 0 where
   pub fits : FitsSystem u
   pub internal : MatchOption id (¬ Contains u.l.labels internal) (λ k. IsLabelId u.l.labels k internal)

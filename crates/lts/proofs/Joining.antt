@@ -6,13 +6,15 @@ use Rattle.std.proofs.lemmas.Grind.{common_steps}
 use Rattle.std.specs.List.{All}
 use Rattle.std.specs.List.Sorted.{IsNonDecreasingBy}
 use Rattle.std.proofs.lemmas.Bool.{cases_lt}
-use Rattle.std.proofs.lemmas.List.{length_push, append_assoc, map-append, map_push, take_more, get_or_push, places, same_lists}
+use Rattle.std.proofs.lemmas.List.{length_push, append_assoc, map-append, map_push, take_more, get_or_push, places}
+use Rattle.std.proofs.lemmas.List.{same_lists}
 use Rattle.std.proofs.lemmas.List.{length-append, length-map}
 use Rattle.std.proofs.lemmas.List.Elements.{All-map, Contains-push, Contains-append_left}
 use Rattle.theory.specs.System.{Transition}
 use Rattle.theory.specs.Union.{shifted, union_of}
 use Rattle.lts.specs.Labels.{text_of, IsLabelId, IsTable, KeepsLabels, Interns}
-use Rattle.lts.specs.Lts.{Triple, source_of, label_of, target_of, place_at, transition_of, system_of, grouped, IsTriple, IsLts}
+use Rattle.lts.specs.Lts.{Triple, source_of, label_of, target_of, place_at, transition_of, system_of, grouped, IsTriple}
+use Rattle.lts.specs.Lts.{IsLts}
 use Rattle.lts.specs.Lts.{IsUsedLabel, Grouped, IsBuilt}
 use Rattle.lts.specs.Union.{IsJoined, AddsShifted}
 use Rattle.lts.proofs.Grouped.{ascending-append, ascending-map, ascending-from_map, grouped-same}

@@ -17,25 +17,25 @@
 //!
 //! block_ids      2  0  0  0  3  1  1  4    after the split: the blocks with the IDs 2, 3 and 4 are new
 //!
-//! states         0 | 1  2  3 | 4 | 5  6 | 7    after the split, in an early round
+//! states         0 | 1  2  3 | 4 | 5  6 | 7    after the split, without positions
 //! spans          1..4 5..7 0..1 4..5 7..8
 //!
-//! states         0 | 4 | 2  3  1 | 5  6 | 7    after the split, in a late round
+//! states         0 | 4 | 2  3  1 | 5  6 | 7    after the split, with positions
 //! spans          2..5 5..7 0..1 1..2 7..8
 //! position       0  4  2  3  1  5  6  7        the position of each state in `states`
 //! ```
 //!
 //! The span of a block is the range of `states` that the block occupies. The function `split_block` splits a block
 //! within its span, in three steps. First it counts the states with each signature (`tally`). Then it sorts the states
-//! by signature, with a counting sort (`sort_by_signature`). Finally it divides the span where one signature ends and
-//! the next signature begins (`cut`).
+//! by signature, with a counting sort (`sort_front`). Finally it divides the span where one signature ends and the next
+//! signature begins (`cut`).
 //!
-//! * Early rounds process many states in few blocks, so all states of each block are sorted (`split_all`).
-//! * Late rounds process few states, and store the position of each state in `states` (`position`). First, the states
-//!   whose signature is not empty are moved to the beginning of the span of their block (`gather`). Then only the moved
-//!   states are sorted (`split_affected`). All other states of the block have the empty signature. They form one part
-//!   of the block, and are not moved. So the time for a split depends on the number of active states, which are the
-//!   states that the round processes (Valmari and Lehtinen 2008).
+//! * Before `with_positions` is called, rounds process many states in few blocks, so all states of each block are
+//! sorted (`split_all`). * After `with_positions` is called, rounds process few states, and the position of each state
+//! in `states` is stored (`position`). First, the states whose signature is not empty are moved to the beginning of the
+//! span of their block (`gather`). Then only the moved states are sorted (`split_affected`). All other states of the
+//! block have the empty signature. They form one part of the block, and are not moved. So the time for a split depends
+//! on the number of active states, which are the states that the round processes (Valmari and Lehtinen 2008).
 //!
 //! Between two splits, each span contains exactly the states of its block, and the spans are disjoint and cover
 //! `states` (`IsLayout`). During a split, states are moved only within the span of their block, and `cut` does not move

@@ -115,7 +115,7 @@ module _ (u : Under) (s : ℕ) (lts : IsLts u.l) (laws : Laws)
         )
 
     -- Suppose that the data of the search is `new` after the search has read e. If the search has explored e, and still
-    -- has everything that it had found before, then it has read one more transition of x.
+    -- has everything that it had found before, then `ReadsRow` holds up to the index k + 1.
     reads : (new : FoundStates) → StartsWith new.states old.states → FindsFrom u s new i
         → ((e' : Triple) → IsExplored u s old e' → IsExplored u s new e') → IsExplored u s new e
         → ReadsRow u s first i start (k + 1) new
@@ -125,7 +125,7 @@ module _ (u : Under) (s : ℕ) (lts : IsLts u.l) (laws : Laws)
     }
 
     -- Suppose that the transition e is inert, and that the search reaches its target: if the target was not found
-    -- before, it is added to the found states. Then the search has read one more transition of x.
+    -- before, it is added to the found states. Then `ReadsRow` holds up to the index k + 1.
     goes : (new : FoundStates) → IsInert u (blocks s) e → Reaches (target_of e) old new
         → ReadsRow u s first i start (k + 1) new
     goes new inert (inl (was, is)) =
@@ -148,7 +148,7 @@ module _ (u : Under) (s : ℕ) (lts : IsLts u.l) (laws : Laws)
         }) keeps (search rules))
 
     -- Suppose that the transition e is not inert, and that the search collects its pair (label ID, target block). Then
-    -- the search has read one more transition of x.
+    -- `ReadsRow` holds up to the index k + 1.
     collects : (z : ℕ × ℕ) (new : FoundStates) → ¬ IsInert u (blocks s) e → z ≡ pair_under u.blocks e →
         new ≡ record old { pairs = old.pairs ++ z ∷ [] } → ReadsRow u s first i start (k + 1) new
     collects z new other pair is =
@@ -173,8 +173,7 @@ module _ (u : Under) (s : ℕ) (lts : IsLts u.l) (laws : Laws)
           shown = λ _. rw (← pair) (Contains-push old.pairs z);
         }))
 
-    -- If the search has read the transition e, then it has read one more transition of x. This is true for an inert
-    -- transition and for a transition that is not inert.
+    -- Whether the transition e is inert or not, `ReadsRow` holds up to the index k + 1 after the search has explored e.
     pub went : (step : RowStep) (new : FoundStates) → IsStep u (blocks s) e step → ExploresStep step old new
         → ReadsRow u s first i start (k + 1) new
     went (Goes t) new (inert, is) reaches = goes new inert (subst (λ t. Reaches t old new) is reaches)

@@ -147,7 +147,11 @@ module _ (l : Grouped) (labelled : Labelled l) (sys : IsSystem (system_of l)) (o
       split_id = elim (signs.changed s one) [
         | inl (is, zero) ↦ inl (ap (list_at signatures) zero ∙ are.first, unchanged.0 is)
         | inr (other, now) ↦
-            rw now (inr (λ nil. other (unchanged.1 (empty_still nil)), λ is. other (unchanged.1 is), signs.signed s one))
+            rw now (inr (
+              λ nil. other (unchanged.1 (empty_still nil)),
+              λ is. other (unchanged.1 is),
+              signs.signed s one,
+            ))
       ]
 
     -- For each state that is not in a singleton block, the new cached ID is the ID of the signature of this state.
@@ -163,7 +167,8 @@ module _ (l : Grouped) (labelled : Labelled l) (sys : IsSystem (system_of l)) (o
       split = ready.split;
       each = λ s h. let given = λ (one : IsMember active s). ⊎_map (λ x. x) (split_id s h one) (keeps.each s h) in
           grind (arith, ready.others s h, none s, given, have, are.first);
-      first = λ none s one. grind (arith, common_steps, signs.changed s one, signs.signed s one, ready.empty refl none s);
+      first = λ none s one. grind
+          (arith, common_steps, signs.changed s one, signs.signed s one, ready.empty refl none s);
       cached = λ branching. record {
         states = signs.states;
         signature_ids = signs.each;

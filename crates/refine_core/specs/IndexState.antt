@@ -93,8 +93,8 @@ pub record IsInRound (Stage : Relation → Grouped → Option (List ℕ) → Sig
   pub index : AreAllActiveOrIndexed r.index_state rel l r.blocks
   pub stage : Stage rel l old r
 
--- `IsBegun` holds if a round that started with the blocks `p` (`IsInRound`) is ready for computing the signatures of its
--- active states (`IsReadyToSign`).
+-- `IsBegun` holds if a round that started with the blocks `p` (`IsInRound`) is ready for computing the signatures of
+-- its active states (`IsReadyToSign`).
 abbrev pub IsBegun : Relation → Grouped → RoundBlocks → Signed → Type 0
 IsBegun rel l p r = IsInRound IsReadyToSign rel l p r
 

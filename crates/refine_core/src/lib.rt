@@ -20,9 +20,9 @@
 //! processed states each time that the number of singleton blocks has grown by more than 1/32 of the number of
 //! processed states. A round is late if fewer than a quarter of the blocks are new. When the late rounds have taken
 //! at most about twice as much time as it takes to build the predecessor index (`lts::Incoming`), the index is built.
-//! For each state, the predecessor index has the places of the transitions that lead to this state. The place of a transition is its
-//! index in the list of all transitions. After the index was built, each round begins with a search that goes backwards
-//! from the states of new blocks (`predecessors`):
+//! For each state, the predecessor index has the places of the transitions that lead to this state. The place of a
+//! transition is its index in the list of all transitions. After the index was built, each round begins with a search
+//! that goes backwards from the states of new blocks (`predecessors`):
 //!
 //! ```text
 //! block   0     0     0     0     0     2     1       first_new = 2: state 5 is in a new block

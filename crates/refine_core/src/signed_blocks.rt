@@ -29,14 +29,14 @@ const LATE_ROUND_FRACTION: u32 = 4;
 /// transitions, building the index takes as much time as three rounds that process all states.
 const MOST_FULL_ROUNDS: u32 = 6;
 
-/// If states have few transitions, building the predecessor index takes less time, so the index is built after less work.
-/// Let n be the average number of transitions of a state, divided by `ROW_LENGTH_PER_FULL_ROUND`. The index is built in
-/// the first late round (a round in which few blocks are new) for which the late rounds before it have done as much work
-/// as n rounds that process all states.
+/// If states have few transitions, building the predecessor index takes less time, so the index is built after less
+/// work. Let n be the average number of transitions of a state, divided by `ROW_LENGTH_PER_FULL_ROUND`. The index is
+/// built in the first late round (a round in which few blocks are new) for which the late rounds before it have done as
+/// much work as n rounds that process all states.
 const ROW_LENGTH_PER_FULL_ROUND: u32 = 2;
 
-/// A round without a predecessor index goes through all blocks. Going through this number of blocks takes less time than
-/// processing one state.
+/// A round without a predecessor index goes through all blocks. Going through this number of blocks takes less time
+/// than processing one state.
 const BLOCKS_PER_STATE: u32 = 8;
 
 /// Says whether the predecessor index was built, and whether it was searched for the states that the round processes.
@@ -226,9 +226,9 @@ impl SignedBlocks {
     }
 
     /// Returns whether this round has to build the predecessor index. If a late round does not have to build the index,
-    /// the call adds the work of this round to `late_work`. A round is late if fewer than a quarter of the blocks are new
-    /// (made by the last split). The work of a late round without an index is the number of states that it processes,
-    /// plus the number of blocks divided by `BLOCKS_PER_STATE`.
+    /// the call adds the work of this round to `late_work`. A round is late if fewer than a quarter of the blocks are
+    /// new (made by the last split). The work of a late round without an index is the number of states that it
+    /// processes, plus the number of blocks divided by `BLOCKS_PER_STATE`.
     ///
     /// Let n be half of the average number of transitions of a state (rounded down), but at most `MOST_FULL_ROUNDS`. A
     /// late round has to build the index if the work of all late rounds before it is at least n times the number of all

@@ -25,8 +25,8 @@ pub trait Signing {
     ghost relation: { Relation };
 
     /// Begins a round if there is no predecessor index yet. Builds the predecessor index if the rounds in which few of
-    /// the blocks were new have done enough work (`SignedBlocks::begin_index`). A block is new if the last split has made
-    /// it.
+    /// the blocks were new have done enough work (`SignedBlocks::begin_index`). A block is new if the last split has
+    /// made it.
     fn begin<M: Meter>(l: &Lts<M>, round: SignedBlocks, m: &mut M) -> Result<SignedBlocks, Memory>
         requires absent { round.index_state ≡ Absent }
         requires ready_for_round { Awaits relation l.now round }

@@ -45,7 +45,8 @@ module _ {active : List ℕ} {old w : Search} (woken : AreMarkedUnvisited old.st
   -- The active states are the states that the round processes. Suppose that the cached signature ID is correct for each
   -- state that is not active but shares a block with an active state. Then a search can begin (`IsAtRest`).
   pub woken_rests : {u : Under} {signatures : List (List (ℕ × ℕ))}
-      → CachesBeside u.l u.blocks active signatures (cached old.stages) → 1 ≤ length signatures → IsAtRest u signatures w
+      → CachesBeside u.l u.blocks active signatures (cached old.stages) → 1 ≤ length signatures
+      → IsAtRest u signatures w
   woken_rests {u = u} {signatures = signatures} had some =
       let size : length old.stages ≡ u.l.states = sym (length-map old.stages id_of) ∙ had.states in
       let signed : AreCacheable u signatures w.stages = λ s k is.

@@ -28,7 +28,11 @@ module _ {u : Under} {before signatures : List (List (ℕ × ℕ))} {active : Li
 
   pub over_again : HasEnded done
   over_again = let size = back.on.walks.sizes.size in let seen = back.on.seen.finished in
-      record { empty = back.empty; all = λ s h. grind (arith, h, woke.others s, its s, over.all s, size, states, seen s) }
+      record {
+        empty = back.empty;
+        all = λ s h. grind
+            (arith, h, woke.others s, its s, over.all s, size, states, seen s);
+      }
 
   -- These lemmas make two assumptions. Before the search, the cached signature ID of each active state (each state that
   -- the round processes) was written to the list `old`, and the result is the list `put`. After the search, each of

@@ -7,7 +7,7 @@ sign_and_visit_rest-requires-clause-states g c =
     ap (λ b. length b.block_ids) c.in_ok-begun.ensures.begun.blocks ∙ c.requires.ready_for_round.states
 
 pub sign_and_visit_rest-requires-clause-ready : goal.sign_and_visit_rest-requires-clause-ready
-sign_and_visit_rest-requires-clause-ready g c = (_, c.in_ok-begun.ensures.begun.is)
+sign_and_visit_rest-requires-clause-ready g c = (_, c.in_ok-begun.ensures.begun.stage)
 
 pub sign_and_visit_rest-requires-clause-visited : goal.sign_and_visit_rest-requires-clause-visited
 sign_and_visit_rest-requires-clause-visited g c = let visited = c.in_ok-begun.ensures.visited in
@@ -19,5 +19,5 @@ returns-clause-signed g c = let begun = c.in_ok-begun.ensures.begun in
       old = begun.old;
       blocks = rw signed.blocks begun.blocks;
       index = rw (signed.blocks, signed.index_state) begun.index;
-      is = signed.signs _ begun.is;
+      stage = signed.signs _ begun.stage;
     }) c.sign_and_visit_rest.ensures.signed
