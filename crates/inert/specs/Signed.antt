@@ -43,9 +43,10 @@ IsIdIfChanged old new shown = ((old ≡ new) × (shown ≡ 0)) ⊎ (¬ (old ≡ 
 
 -- `SignsActive` holds if the round has computed the signatures of its active states, which are the states that it
 -- processes. The interned signatures were `before` and are now `signatures`, and the cached IDs of all states were
--- `old` and are now `cached`. The signature of each active state must be interned, and its ID must be cached. The
--- cached ID of every other state must be the same as before. For each active state, `signature_ids` must have the ID
--- that is used to split its block (`IsIdIfChanged`).
+-- `old` and are now `cached`. Each signature in `before` must have the same ID in `signatures`. All cached IDs, and all
+-- IDs in `signature_ids`, must be IDs of interned signatures. The signature of each active state must be interned, and
+-- its ID must be cached. The cached ID of every other state must be the same as before. For each active state,
+-- `signature_ids` must have the ID that is used to split its block (`IsIdIfChanged`).
 pub record SignsActive (l : Grouped) (blocks active : List ℕ) (before signatures : List (List (ℕ × ℕ)))
     (old cached signature_ids : List ℕ) : Type 0 where
   pub grow : Grow before signatures

@@ -30,12 +30,13 @@
 //! by signature, with a counting sort (`sort_front`). Finally it divides the span where one signature ends and the next
 //! signature begins (`cut`).
 //!
-//! * Before `with_positions` is called, rounds process many states in few blocks, so all states of each block are
-//! sorted (`split_all`). * After `with_positions` is called, rounds process few states, and the position of each state
-//! in `states` is stored (`position`). First, the states whose signature is not empty are moved to the beginning of the
-//! span of their block (`gather`). Then only the moved states are sorted (`split_affected`). All other states of the
-//! block have the empty signature. They form one part of the block, and are not moved. So the time for a split depends
-//! on the number of active states, which are the states that the round processes (Valmari and Lehtinen 2008).
+//! * Before `with_positions` is called, all states of each block with more than one state are counted and sorted
+//!   (`split_all`). This is fast enough as long as rounds process many states.
+//! * After `with_positions` is called, the position of each state in `states` is stored (`position`), and rounds
+//!   usually process few states. First, the states whose signature is not empty are moved to the beginning of the span
+//!   of their block (`gather`). Then only the moved states are sorted (`split_affected`). All other states of the block
+//!   have the empty signature. They form one part of the block, and are not moved. So the time for a split depends on
+//!   the number of active states, which are the states that the round processes (Valmari and Lehtinen 2008).
 //!
 //! Between two splits, each span contains exactly the states of its block, and the spans are disjoint and cover
 //! `states` (`IsLayout`). During a split, states are moved only within the span of their block, and `cut` does not move

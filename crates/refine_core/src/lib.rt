@@ -18,11 +18,12 @@
 //!
 //! The first rounds process every state that has a transition. States in singleton blocks are dropped from the
 //! processed states each time that the number of singleton blocks has grown by more than 1/32 of the number of
-//! processed states. A round is late if fewer than a quarter of the blocks are new. When the late rounds have taken
-//! at most about twice as much time as it takes to build the predecessor index (`lts::Incoming`), the index is built.
-//! For each state, the predecessor index has the places of the transitions that lead to this state. The place of a
-//! transition is its index in the list of all transitions. After the index was built, each round begins with a search
-//! that goes backwards from the states of new blocks (`predecessors`):
+//! processed states. A round is late if fewer than a quarter of the blocks are new. When the late rounds have done as
+//! much work as a few rounds over all states (`SignedBlocks::needs_index`), the predecessor index is built
+//! (`lts::Incoming`). Until then, they have taken at most about twice as long as building the index takes. For each
+//! state, the predecessor index has the places of the transitions that lead to this state. The place of a transition is
+//! its index in the list of all transitions. After the index was built, each round begins with a search that goes
+//! backwards from the states of new blocks (`predecessors`):
 //!
 //! ```text
 //! block   0     0     0     0     0     2     1       first_new = 2: state 5 is in a new block

@@ -24,15 +24,16 @@ use std::marker::Model;
 /// all blocks divided by `LATE_ROUND_FRACTION`. The rounds after a late round usually have few states to process.
 const LATE_ROUND_FRACTION: u32 = 4;
 
-/// A round is late if few blocks are new. The predecessor index is built in the first late round for which the late
-/// rounds before it have done as much work as this number of rounds that process all states. If states have many
-/// transitions, building the index takes as much time as three rounds that process all states.
+/// A round is late if few blocks are new. The predecessor index is built at the latest in the first late round for
+/// which the work of all late rounds before it (`SignedBlocks::needs_index`) is at least this number times the number
+/// of all states. If states have many transitions, building the index takes as much time as three rounds that process
+/// all states.
 const MOST_FULL_ROUNDS: u32 = 6;
 
 /// If states have few transitions, building the predecessor index takes less time, so the index is built after less
 /// work. Let n be the average number of transitions of a state, divided by `ROW_LENGTH_PER_FULL_ROUND`. The index is
-/// built in the first late round (a round in which few blocks are new) for which the late rounds before it have done as
-/// much work as n rounds that process all states.
+/// built in the first late round (a round in which few blocks are new) for which the work of all late rounds before it
+/// (`SignedBlocks::needs_index`) is at least n times the number of all states.
 const ROW_LENGTH_PER_FULL_ROUND: u32 = 2;
 
 /// A round without a predecessor index goes through all blocks. Going through this number of blocks takes less time
