@@ -16,10 +16,10 @@ pub record HideReadsTo (given : List ℕ) (rest : Option (List ℕ)) (failures :
   pub sound : failures ≡ 0
 
 -- `HideRefuses` states why reading a hide list (the labels to hide) returns no labels. There are three reasons: the
--- list has an error, the source (what the list is read from) has failed, or an allocation has failed. If the list has
--- an error, and the contract of the source states which bytes it contains, then the error that is returned is the first
--- error of the whole list. After a failure of the source, the bytes that were read must not determine an error of the
--- list (`JudgedHideFault`).
+-- list has an error, the source (what the list is read from) has failed, or an allocation has failed. Suppose that the
+-- list has an error, and that the contract of the source states which bytes the source contains. Then the error that is
+-- returned is the first error of the whole list. If the source has failed, the bytes that were read before the failure
+-- must not be enough to show that the list has an error (`JudgedHideFault`).
 pub data HideRefuses (given : List ℕ) (rest : Option (List ℕ)) (failures : ℕ) (fault : Fault) : Type 0 where
   faulty_text : failures ≡ 0 → IsHideFault fault → IfSome rest (λ more. FirstHideFault (given ++ more) fault) →
       HideRefuses given rest failures fault

@@ -36,10 +36,11 @@ pub record ReadsTo (bounds : Bounds) (H : List (List ℕ)) (given : List ℕ) (r
   pub sound : failures ≡ 0
 
 -- `Refuses` states why reading a system returns no system. There are three reasons: the input has an error, the source
--- (what the input is read from) has failed, or an allocation has failed. If the input has an error, and the contract of
--- the source states which bytes it contains, then the error that is returned is the first error of the whole input.
--- After a failure of the source, the bytes that were read must not determine an error of the input (`JudgedFault`). If
--- the contract of the source states which bytes it contains, an allocation can fail only after a correct header.
+-- (what the input is read from) has failed, or an allocation has failed. Suppose that the input has an error, and that
+-- the contract of the source states which bytes the source contains. Then the error that is returned is the first error
+-- of the whole input. If the source has failed, the bytes that were read before the failure must not be enough to show
+-- that the input has an error (`JudgedFault`). If the contract of the source states which bytes the source contains, an
+-- allocation can fail only after a correct header has been read.
 pub data Refuses (bounds : Bounds) (given : List ℕ) (rest : Option (List ℕ)) (failures : ℕ)
     (fault : Fault) : Type 0 where
   faulty_text : failures ≡ 0 → IsTextFault fault → IfSome rest (λ more. FirstFault bounds (given ++ more) fault) →

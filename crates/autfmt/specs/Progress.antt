@@ -10,9 +10,10 @@ pub record Progress (old new : Option (List ℕ)) (waiting bytes : List ℕ) : T
   pub gained : Appends old new front
   pub whole : bytes ≡ front ++ waiting
 
--- `PutsThrough old new result buffer bytes` holds if a call has sent `bytes` to the sink (what an output is written to)
--- through a buffer. After success, a prefix of `bytes` was written, and the other bytes are at the beginning of the
--- buffer. The result is their number. After an error, a prefix of `bytes` was written.
+-- `PutsThrough old new result buffer bytes` holds for a call that sends `bytes` to the sink (what an output is written
+-- to) through a buffer. If the call succeeded, it has written a prefix of `bytes`, the remaining bytes are at the
+-- beginning of the buffer, and the result of the call is the number of these remaining bytes. If the call failed, it
+-- has written a prefix of `bytes`.
 abbrev pub PutsThrough : {E : Type 0} → Option (List ℕ) → Option (List ℕ) → Result ℕ E → List ℕ → List ℕ → Type 0
 PutsThrough old new result buffer bytes =
     MatchResult result (λ n. Progress old new (take n buffer) bytes) (λ _. AppendsPrefix old new bytes)

@@ -133,10 +133,11 @@ abbrev pub SignsMore : Under → List (List (ℕ × ℕ)) → List VisitState �
 SignsMore u signatures old new =
     (s k : ℕ) → stage_at new s ≡ Completed k → (stage_at old s ≡ Completed k) ⊎ IsSigned u s signatures k
 
--- `GoesOn` compares two points `old` and `new` of the search. The interned signatures are `before` at the first point
--- and `signatures` at the second point. It holds if `new` satisfies the invariant of the search (`SearchInvariant`), if
--- each signature of `before` has the same ID in `signatures`, if each state that is visited in `old` is also visited in
--- `new`, and if `SignsMore` holds for the statuses of the states.
+-- `GoesOn` compares two points `old` and `new` of the search. The list of interned signatures is `before` at the first
+-- point and `signatures` at the second point. The point `new` must satisfy the invariant of the search
+-- (`SearchInvariant`). Each signature of `before` must have the same ID in `signatures`. Each state that is visited in
+-- `old` must also be visited in `new`. Each state that is completed in `new` must have had the same status in `old`, or
+-- must be completed with the ID of its signature (`SignsMore`).
 pub record GoesOn (u : Under) (before signatures : List (List (ℕ × ℕ))) (old new : Search) : Type 0 where
   pub walks : SearchInvariant u signatures new
   pub grow : Grow before signatures

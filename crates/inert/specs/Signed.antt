@@ -42,11 +42,12 @@ abbrev pub IsIdIfChanged : ℕ → ℕ → ℕ → Type 0
 IsIdIfChanged old new shown = ((old ≡ new) × (shown ≡ 0)) ⊎ (¬ (old ≡ new) × (shown ≡ new))
 
 -- `SignsActive` holds if the round has computed the signatures of its active states, which are the states that it
--- processes. The interned signatures were `before` and are now `signatures`, and the cached IDs of all states were
--- `old` and are now `cached`. Each signature in `before` must have the same ID in `signatures`. All cached IDs, and all
--- IDs in `signature_ids`, must be IDs of interned signatures. The signature of each active state must be interned, and
--- its ID must be cached. The cached ID of every other state must be the same as before. For each active state,
--- `signature_ids` must have the ID that is used to split its block (`IsIdIfChanged`).
+-- processes. The list of interned signatures was `before` and is now `signatures`. The list of the cached IDs of all
+-- states was `old` and is now `cached`. Each signature in `before` must have the same ID in `signatures`. All cached
+-- IDs, and all IDs in `signature_ids`, must be IDs of interned signatures. The signature of each active state must be
+-- interned, and its ID must be cached. The cached ID of every other state must be the same as before. For each active
+-- state, `signature_ids` must have the ID by which the block of this state is split: the ID of the signature if this ID
+-- has changed, and otherwise the ID of the empty signature (`IsIdIfChanged`).
 pub record SignsActive (l : Grouped) (blocks active : List ℕ) (before signatures : List (List (ℕ × ℕ)))
     (old cached signature_ids : List ℕ) : Type 0 where
   pub grow : Grow before signatures

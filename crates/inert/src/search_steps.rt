@@ -168,9 +168,10 @@ impl DepthFirstSearch {
         Ok(())
     }
 
-    /// An item is a pair (label ID, target block), or the ID of a signature, which represents all pairs of this
-    /// signature. The function interns the signature that consists of all pairs that the items from the index `first`
-    /// on represent, and removes these items. Returns the ID of the interned signature.
+    /// An item is either a pair (label ID, target block) or the ID of a signature. The ID of a signature represents all
+    /// pairs of this signature. The function takes the items from the index `first` on. All pairs that these items
+    /// represent form one signature. The function interns this signature, removes the items, and returns the ID of the
+    /// signature.
     #[inline(always)]
     fn intern_from(&mut self, first: usize, signatures: &mut Interner) -> Result<u32, Memory>
         requires first { first ≤ length self.old.items }

@@ -16,8 +16,8 @@ pub record FitTogether (a b : Grouped) : Type 0 where
 
 -- The following definitions are private to the module `disjoint`, which computes the union.
 
--- `FitsBehind` holds if the system l can be appended to a part of a union that has n states and m transitions: the
--- total numbers of states and transitions must be within the limits for one system.
+-- Suppose that a part of a union has n states and m transitions. `FitsBehind` holds if the system l can be appended to
+-- this part: the total number of states and the total number of transitions must be within the limits for one system.
 pub record FitsBehind (n m : ℕ) (l : Grouped) : Type 0 where
   pub states : n + l.states ≤ MOST_STATES
   pub transitions : m + length l.places ≤ MOST_TRANSITIONS

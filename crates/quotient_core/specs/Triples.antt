@@ -47,8 +47,9 @@ abbrev pub is_member : Numbered → ℕ → ℕ → Bool
 is_member rows i s = is_reached rows s && (number_of rows s == i)
 
 -- `ShowEachOther` holds if the following is true for any two reachable states s and t that the same quotient state
--- represents. If s has as many quotient transitions (transitions between quotient states) as transitions, so that none
--- is left out, then each quotient transition of t is also a quotient transition of s.
+-- represents. A quotient transition is a transition between quotient states. Suppose that s has the same number of
+-- quotient transitions as of transitions, so that no transition of s is left out. Then each quotient transition of t is
+-- also a quotient transition of s.
 abbrev pub ShowEachOther : Numbered → Type 0
 ShowEachOther rows =
     (s t : ℕ) → IsTrue (is_reached rows s) → IsTrue (is_reached rows t) → number_of rows s ≡ number_of rows t →

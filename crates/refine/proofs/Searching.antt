@@ -73,9 +73,10 @@ module _ (places : List Triple) where
       × (sum_by row_length (take i xs) ≤ length places)
   rows_all xs i once long some = rw (take_all i xs long) (get_or-le-sum_by row_length xs 0 0 some, rows_few xs once)
 
--- In the list of all transitions, the transitions of the found state at the index i begin at the place (index) `start`.
--- `ReadsRow` holds while the search reads these transitions. The data of the search was `first` before it read them,
--- and is f now. The search has explored the transitions from the place `start` up to but excluding the place k.
+-- The place of a transition is its index in the list of all transitions. Consider the state at the index i in the list
+-- of found states, whose transitions begin at the place `start`. `ReadsRow` holds while the search reads these
+-- transitions. The data of the search was `first` before the search read them, and is f now. The search has explored
+-- (`IsExplored`) the transitions from the place `start` up to but excluding the place k.
 pub record ReadsRow (u : Under) (s : ℕ) (first : FoundStates) (i start k : ℕ) (f : FoundStates) : Type 0 where
   pub on : Continues u s first f i
   pub taken : (j : ℕ) → j < k → start ≤ j → IsExplored u s f (place_at u.l.places j)
@@ -114,8 +115,9 @@ module _ (u : Under) (s : ℕ) (lts : IsLts u.l) (laws : Laws)
           inert.1 ∙ sym (stays A blocks s x led),
         )
 
-    -- Suppose that the data of the search is `new` after the search has read e. If the search has explored e, and still
-    -- has everything that it had found before, then `ReadsRow` holds up to the index k + 1.
+    -- Let `new` be the data of the search after the search has read the transition e. Suppose that the search has
+    -- explored e (`IsExplored`), and that `new` still has everything that the search had found before. Then `ReadsRow`
+    -- holds up to the index k + 1.
     reads : (new : FoundStates) → StartsWith new.states old.states → FindsFrom u s new i
         → ((e' : Triple) → IsExplored u s old e' → IsExplored u s new e') → IsExplored u s new e
         → ReadsRow u s first i start (k + 1) new
@@ -184,7 +186,8 @@ module _ (u : Under) (s : ℕ) (lts : IsLts u.l) (laws : Laws)
       ((s t : ℕ) → Inert A blocks s t → IsTrue (has s) → IsTrue (has t))
       → (s t : ℕ) → Leads (Inert A blocks) s t → IsTrue (has s) → IsTrue (has t))
       (f : FoundStates) (search : FindsFrom u s f (length f.states)) where
-    -- If the search has found the state x, it has explored the transition of each step of x.
+    -- If the search has found the state x, then it has explored, for each step that x can make, the stored transition
+    -- for this step.
     explored : (x : ℕ) (a : List ℕ) (y : ℕ) → WasFound f x → Step A x a y → (e : Triple) × (IsExplored u s f e
         × IsTriple (length u.l.labels) u.l.states e) × (text_of u.l.labels (label_of e) ≡ a) × (target_of e ≡ y)
     explored x a y on step =

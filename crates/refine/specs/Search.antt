@@ -61,9 +61,10 @@ pub record FindsFrom (u : Under) (s : ℕ) (f : FoundStates) (read : ℕ) : Type
   pub taken : (j : ℕ) → j < read → (k : ℕ) → k < length u.l.places →
       source_of (place_at u.l.places k) ≡ slice_index f.states j → IsExplored u s f (place_at u.l.places k)
 
--- `Continues` holds if `new` is the data of a search that began at the state s, and `old` is the data of the same
--- search at an earlier time. The states that `old` has found must be the first found states of `new`. Moreover, `new`
--- must satisfy the invariant `FindsFrom`, where all transitions of the first `read` found states are explored.
+-- `Continues` compares the data of one search at two times. The search began at the state s. Its data was `old` at the
+-- earlier time, and is `new` at the later time. The states that were found in `old` must be the first found states of
+-- `new`. Moreover, `new` must satisfy the invariant `FindsFrom` for the number `read`: the search has explored all
+-- transitions of the first `read` found states.
 pub record Continues (u : Under) (s : ℕ) (old new : FoundStates) (read : ℕ) : Type 0 where
   pub search : FindsFrom u s new read
   pub kept : StartsWith new.states old.states

@@ -57,8 +57,8 @@ RestartsOrSearches (Pending e) rel l old r =
 
 -- `Awaits` holds if r, the data of a round (`Signed`), is ready for a new round. Each state must have a block ID, and
 -- the blocks of r must result from the blocks `old` of the last round (`Follows`). If there is a predecessor index, a
--- search of this index must be pending, or the round must process all states again (`RestartsOrSearches`). If there is
--- no predecessor index, each state must be active (processed by the round), be in a singleton block, or have no
+-- search in this index must be pending, or the new round must process all states again (`RestartsOrSearches`). If there
+-- is no predecessor index, each state must be active (processed by the round), be in a singleton block, or have no
 -- transition (`AreAllActiveOrIndexed`).
 pub record Awaits (rel : Relation) (l : Grouped) (r : Signed) : Type 0 where
   pub states : length r.blocks.block_ids ≡ l.states
@@ -81,11 +81,11 @@ pub record IsReadyToSign (rel : Relation) (l : Grouped) (old : Option (List ℕ)
   pub cached : rel ≡ Branching → CachesIds l r.blocks.block_ids r.signatures r.cached old
   pub empty : rel ≡ Branching → old ≡ None → (s : ℕ) → slice_index r.cached s ≡ 0
 
--- `IsInRound` is about r, the data of a round (`Signed`) that has begun. The round started with the blocks `p`, and
--- only the active states (the states that the round processes) may differ from those in `p`. If there is a predecessor
--- index, it must be an index of the system `l`, and otherwise all states must be active unless their signatures cannot
--- change a block (`AreAllActiveOrIndexed`). The list `old` has the block IDs in the last round. The condition `Stage`
--- says how far the round has come, and must hold for `old` and r.
+-- `IsInRound` is about r, the data of a round (`Signed`) that has begun. The round started with the blocks `p`. The
+-- blocks of r must be equal to `p`, except that other states may be active (processed by the round). If there is a
+-- predecessor index, it must be an index of the system `l`. If there is no predecessor index, each state must be
+-- active, be in a singleton block, or have no transition (`AreAllActiveOrIndexed`). The list `old` has the block IDs in
+-- the last round. The condition `Stage` states how far the round has come, and must hold for `old` and r.
 pub record IsInRound (Stage : Relation → Grouped → Option (List ℕ) → Signed → Type 0) (rel : Relation) (l : Grouped)
     (p : RoundBlocks) (r : Signed) : Type 0 where
   pub old : Option (List ℕ)
@@ -157,9 +157,10 @@ pub record SignsEach (rel : Relation) (l : Grouped) (old : Option (List ℕ)) (r
       → IsSignature rel l r.blocks.block_ids s (list_of r.signatures r.signature_ids s)
   pub cached : rel ≡ Branching → CachesIds l r.blocks.block_ids r.signatures r.cached (Some r.blocks.block_ids)
 
--- `SignsRound` holds if r results from p by computing the signatures of the active states. The blocks and the
--- predecessor index must be the same. For any blocks `old` of the last round, the signatures in r must be correct
--- (`SignsEach`) if p was ready for computing them (`IsReadyToSign`).
+-- `SignsRound` compares the data of a round before (p) and after (r) the signatures of its active states were computed.
+-- The blocks and the predecessor index must be the same in p and r. Let `old` be any list of block IDs. If p was ready
+-- for computing the signatures after a last round with the blocks `old` (`IsReadyToSign`), then the signatures in r
+-- must be correct for `old` (`SignsEach`).
 pub record SignsRound (rel : Relation) (l : Grouped) (p r : Signed) : Type 0 where
   pub blocks : r.blocks ≡ p.blocks
   pub index_state : r.index_state ≡ p.index_state

@@ -24,16 +24,17 @@ use std::marker::Model;
 /// all blocks divided by `LATE_ROUND_FRACTION`. The rounds after a late round usually have few states to process.
 const LATE_ROUND_FRACTION: u32 = 4;
 
-/// A round is late if few blocks are new. The predecessor index is built at the latest in the first late round for
-/// which the work of all late rounds before it (`SignedBlocks::needs_index`) is at least this number times the number
-/// of all states. If states have many transitions, building the index takes as much time as three rounds that process
-/// all states.
+/// A round is late if few blocks are new. The method `SignedBlocks::needs_index` defines the work of a late round. The
+/// predecessor index is built at the latest when the work of all earlier late rounds together is at least this number
+/// times the number of all states. If states have many transitions, building the index takes as much time as three
+/// rounds that process all states.
 const MOST_FULL_ROUNDS: u32 = 6;
 
 /// If states have few transitions, building the predecessor index takes less time, so the index is built after less
-/// work. Let n be the average number of transitions of a state, divided by `ROW_LENGTH_PER_FULL_ROUND`. The index is
-/// built in the first late round (a round in which few blocks are new) for which the work of all late rounds before it
-/// (`SignedBlocks::needs_index`) is at least n times the number of all states.
+/// work. Let n be the average number of transitions of a state, divided by `ROW_LENGTH_PER_FULL_ROUND`, but at most
+/// `MOST_FULL_ROUNDS`. The index is built in the first late round (a round in which few blocks are new) that satisfies
+/// this condition: the work of all earlier late rounds together (`SignedBlocks::needs_index`) is at least n times the
+/// number of all states.
 const ROW_LENGTH_PER_FULL_ROUND: u32 = 2;
 
 /// A round without a predecessor index goes through all blocks. Going through this number of blocks takes less time
@@ -72,8 +73,8 @@ pub struct SignedBlocks {
     /// If there is a predecessor index, and more signatures than this number are stored after a round, then all
     /// signatures are discarded.
     pub(crate) most_signatures: u32,
-    /// The work of all late rounds so far (rounds in which few blocks are new), which were made without a predecessor
-    /// index. The method `needs_index` defines the work of a round.
+    /// The total work of all late rounds so far. A round is late if few blocks are new. All of these rounds were made
+    /// without a predecessor index. The method `needs_index` defines the work of a late round.
     late_work: u64,
 }
 

@@ -24,8 +24,8 @@ at_order P Less a b c f g h = f refl
 at_order P Equal a b c f g h = g refl
 at_order P Greater a b c f g h = h refl
 
--- If two lists have no pair in common, the sum of the hashes of the pairs of their merge is the sum of the hashes of
--- the pairs of both lists.
+-- The hash sum of a list is the sum of the hashes of its pairs. If two lists have no pair in common, then the hash sum
+-- of their merge is the hash sum of the first list plus the hash sum of the second list.
 sum_cons : (x : ℕ × ℕ) (xs : List (ℕ × ℕ)) → ((ys : List (ℕ × ℕ)) → ShareNone xs ys →
     sum_by hash_of (merged xs ys) ≡ sum_by hash_of xs + sum_by hash_of ys) → (ys : List (ℕ × ℕ))
     → ShareNone (x ∷ xs) ys → sum_by hash_of (merged (x ∷ xs) ys) ≡ sum_by hash_of (x ∷ xs) + sum_by hash_of ys

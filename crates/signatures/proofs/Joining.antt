@@ -40,7 +40,8 @@ IsUnion-grown {j} {k} grow first second within exactly = record {
   exactly = rw (grow.same j first, grow.same k second) exactly;
 }
 
--- If stored lists are the unions of other stored lists, they are still their unions after more lists have been added.
+-- Suppose that some stored lists are the unions of other stored lists. After more lists have been added, each of these
+-- lists is still the union of the same lists.
 pub AreUnions-grow : {old new : List (List (ℕ × ℕ))} → Grow old new → (unions : List ((ℕ × ℕ) × ℕ))
     → AreUnions old unions → AreUnions new unions
 AreUnions-grow grow unions are z c =

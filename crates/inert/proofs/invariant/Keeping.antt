@@ -108,9 +108,10 @@ module _ {u : Under} {signatures lists' : List (List (ℕ × ℕ))} (grow : Grow
         λ z g. rw (keeps.states p h) (all z ((give z).1 (rw same at g))),
       )
 
--- Suppose that all completed states stay completed with the same signature IDs. If the signature with the ID k may be
--- cached for the state s (`IsCacheable`), it may still be cached for s afterwards, even if more signatures are
--- interned.
+-- Compare two points of the search. Suppose that all states that are completed at the first point are also completed at
+-- the second point, with the same signature IDs. If the signature with the ID k may be cached for the state s at the
+-- first point (`IsCacheable`), it may also be cached for s at the second point. This is true even if more signatures
+-- were interned between the two points.
 pub kept_still : {signatures lists' : List (List (ℕ × ℕ))} → Grow signatures lists' → (u : Under)
     (old new : List VisitState) → ((s k : ℕ) → stage_at old s ≡ Completed k → stage_at new s ≡ Completed k)
     → (s k : ℕ) → IsCacheable u s signatures old k → IsCacheable u s lists' new k

@@ -19,8 +19,8 @@ pub pair_before : (laws : Laws) (u : Under) (s t : ℕ) (z : ℕ × ℕ) → Lea
     → HasPair Branching u.l u.blocks t z.0 z.1 → HasPair Branching u.l u.blocks s z.0 z.1
 pair_before laws u s t z tie has = (has.0, laws.path (system_of u.l) (slice_index u.blocks) s t _ z.1 tie has.1)
 
--- The list `stages` has the status of each state: unvisited, on the stack, or completed. It has an entry for each state
--- on the stack.
+-- The list `stages` has the status of each state: unvisited, on the stack, or completed. Each state on the stack has an
+-- entry in this list.
 pub open_inside : (stages : List VisitState) (stack : List ℕ) → AreOpen stages stack
     → All (λ s. s < length stages) stack
 open_inside stages stack opened =

@@ -34,10 +34,10 @@ module _ {u : Under} {before signatures : List (List (ℕ × ℕ))} {active : Li
             (arith, h, woke.others s, its s, over.all s, size, states, seen s);
       }
 
-  -- These lemmas make two assumptions. Before the search, the cached signature ID of each active state (each state that
-  -- the round processes) was written to the list `old`, and the result is the list `put`. After the search, each of
-  -- these IDs in `put` was replaced by the ID that is used to split the blocks, and the result is the list
-  -- `signature_ids`.
+  -- The active states are the states that the round processes. These lemmas make two assumptions. First, before the
+  -- search, the cached signature ID of each active state was written to the list `old`. The list after these writes is
+  -- called `put`. Second, after the search, each of these IDs in `put` was replaced by the ID that is used to split the
+  -- blocks. The list after these replacements is called `signature_ids`.
   module _ (old put signature_ids : List ℕ) (none : InactiveHaveNone active old)
       (sizes : length signature_ids ≡ length old)
       (were : (i : ℕ) → i < length active → let s = slice_index active i in

@@ -4,7 +4,8 @@ use Rattle.refine_core.proofs.Signatures.{fits_either, split_fits}
 use Rattle.refine_core.proofs.IndexStates.{split_of, keeps_index_either}
 use Rattle.refine_core.proofs.signed_blocks.SignedBlocks.split.Goals as goal
 
--- If a call ensures P and Q of its value, and R follows from both, then it ensures R.
+-- Suppose that a call ensures that the properties P and Q hold for the value that it returns. If the property R follows
+-- from P and Q together, then the call also ensures that R holds for this value.
 both : {T E : Type 0} {P Q R : T → Type 0} (r : Result T E) → IfOk r P → IfOk r Q → ((x : T) → P x → Q x → R x)
     → IfOk r R
 both (Ok x) p q follows = follows x p q
