@@ -18,9 +18,9 @@ pub record AddsTriple (old now : Held) (s : ℕ) (a : List ℕ) (t : ℕ) : Type
   pub known : (k : ℕ) → k < length now.labels → (k < length old.labels) ⊎ (k ≡ number)
   pub items : now.transitions ≡ old.transitions ++ (s, number, t) ∷ []
 
--- `CanAdd held promised` holds if one more transition can be added to the stored transitions: fewer transitions are
--- stored than the header has promised, the promised number is within the limit for files, and the label table has no
--- more labels than there are transitions.
+-- `CanAdd held promised` holds if one more transition can be added to the stored transitions. Three facts are required.
+-- First, fewer transitions are stored than the header has promised. Second, the promised number is within the limit for
+-- files. Third, the label table has no more labels than there are stored transitions.
 pub record CanAdd (held : Held) (promised : ℕ) : Type 0 where
   pub fewer : length held.transitions < promised
   pub file : promised ≤ FILE_TRANSITIONS

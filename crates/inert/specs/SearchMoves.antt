@@ -136,8 +136,9 @@ SignsMore u signatures old new =
 -- `GoesOn` compares two points `old` and `new` of the search. The list of interned signatures is `before` at the first
 -- point and `signatures` at the second point. The point `new` must satisfy the invariant of the search
 -- (`SearchInvariant`). Each signature of `before` must have the same ID in `signatures`. Each state that is visited in
--- `old` must also be visited in `new`. Each state that is completed in `new` must have had the same status in `old`, or
--- must be completed with the ID of its signature (`SignsMore`).
+-- `old` must also be visited in `new`. Each state that is completed in `new` must satisfy one of two conditions
+-- (`SignsMore`). Either the state had the same status, with the same signature ID, in `old`. Or the status in `new`
+-- contains the ID of the signature of the state.
 pub record GoesOn (u : Under) (before signatures : List (List (ℕ × ℕ))) (old new : Search) : Type 0 where
   pub walks : SearchInvariant u signatures new
   pub grow : Grow before signatures
@@ -152,14 +153,16 @@ abbrev pub MakesProgress : Search → Search → Bool → Type 0
 MakesProgress old new enters = (IsTrue enters → steps new < steps old)
     × (¬ IsTrue enters → HasRead new × (0 < length new.frames) × (steps new ≤ steps old))
 
--- `IsAtRest` holds if the search satisfies its invariant (`SearchInvariant`), and no search is in progress: the stack
--- and all other lists of the search are empty.
+-- `IsAtRest` is about the data w of the search. It holds under two conditions. First, w satisfies the invariant of the
+-- search (`SearchInvariant`). Second, no search is in progress, which means that the stack and all other lists of w are
+-- empty.
 pub record IsAtRest (u : Under) (signatures : List (List (ℕ × ℕ))) (w : Search) : Type 0 where
   pub empty : w ≡ nothing w.stages
   pub walks : SearchInvariant u signatures w
 
--- `ReturnsToRest` holds if the search has gone on from `old` to `new` (`GoesOn`), and no search is in progress at
--- `new`: the stack and all other lists of the search are empty.
+-- `ReturnsToRest` compares the data of the search at two points `old` and `new`. It holds under two conditions. First,
+-- the search has gone on from `old` to `new` (`GoesOn`). Second, no search is in progress at `new`, which means that
+-- the stack and all other lists of `new` are empty.
 pub record ReturnsToRest (u : Under) (before signatures : List (List (ℕ × ℕ))) (old new : Search) : Type 0 where
   pub empty : new ≡ nothing new.stages
   pub on : GoesOn u before signatures old new

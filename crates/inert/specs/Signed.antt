@@ -45,9 +45,9 @@ IsIdIfChanged old new shown = ((old ≡ new) × (shown ≡ 0)) ⊎ (¬ (old ≡ 
 -- processes. The list of interned signatures was `before` and is now `signatures`. The list of the cached IDs of all
 -- states was `old` and is now `cached`. Each signature in `before` must have the same ID in `signatures`. All cached
 -- IDs, and all IDs in `signature_ids`, must be IDs of interned signatures. The signature of each active state must be
--- interned, and its ID must be cached. The cached ID of every other state must be the same as before. For each active
--- state, `signature_ids` must have the ID by which the block of this state is split: the ID of the signature if this ID
--- has changed, and otherwise the ID of the empty signature (`IsIdIfChanged`).
+-- interned, and its ID must be cached. The cached ID of every other state must be the same as before. The blocks are
+-- split by the IDs in `signature_ids`. For each active state whose signature ID has changed, `signature_ids` must have
+-- the new ID. For each other active state, `signature_ids` must have the ID of the empty signature (`IsIdIfChanged`).
 pub record SignsActive (l : Grouped) (blocks active : List ℕ) (before signatures : List (List (ℕ × ℕ)))
     (old cached signature_ids : List ℕ) : Type 0 where
   pub grow : Grow before signatures

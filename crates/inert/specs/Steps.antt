@@ -32,15 +32,15 @@ given (Some visited) = visited.now
 abbrev pub remaining : Under → List Triple
 remaining u = remaining_of u.visited u.l.places
 
--- `FitsSystem` holds if each state of the system has a block, and if each visited place is the index of a transition of
--- the system.
+-- The place of a transition is its index in the list of all transitions. `FitsSystem` holds if each state of the system
+-- has a block, and if each visited place is the place of a transition of the system.
 pub record FitsSystem (u : Under) : Type 0 where
   pub size : length u.blocks ≡ u.l.states
   pub visited : AreVisited u.l.places u.visited
 
--- `Sees` is the invariant of a `Lens`, which is a view of a system. It holds if the blocks and the visited places
--- belong to the system (`FitsSystem`). Moreover, `id` must be the ID of the internal label, or `None` if the label
--- table does not contain the internal label.
+-- `Sees` is the invariant of a `Lens`, which is a view of a system. It has two conditions. First, the blocks and the
+-- visited places (indices of transitions) must belong to the system (`FitsSystem`). Second, `id` must be the ID of the
+-- internal label. If the label table does not contain the internal label, `id` must be `None`.
 pub record Sees (u : Under) (id : Option ℕ) : Type 0 where
   pub fits : FitsSystem u
   pub internal : MatchOption id (¬ Contains u.l.labels internal) (λ k. IsLabelId u.l.labels k internal)

@@ -66,8 +66,8 @@ struct Joined {
 }
 
 impl Joined {
-    /// Appends the transitions of one of the two systems. For each label of this system, the list `guesses` has the ID
-    /// that the label may have in the label table of the union.
+    /// Appends the transitions of one of the two systems to the union. The list `guesses` has one ID for each label of
+    /// this system. The ID is a guess: the label may have this ID in the label table of the union.
     fn append<M: Meter>(
         &mut self,
         part: &Part<M>,

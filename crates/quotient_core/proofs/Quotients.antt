@@ -50,10 +50,10 @@ dropped_is : (rel : Relation) (A : System) (labels : List (List ℕ)) (x : Tripl
 dropped_is Strong A labels x s t same = (λ gone. gone, λ gone. gone)
 dropped_is Branching A labels x s t same = (λ h. (h.0, same.0 h.1), λ h. (h.0, same.1 h.1))
 
--- `IsNumbered` holds if each reachable state of the system g has its class number (the quotient state that represents
--- it). Moreover, the program must leave out a triple (`is_left_out`) if and only if the quotient modulo `rel` drops the
--- transition that the triple denotes (`IsDropped`). The other fields are theorems of the crates `theory` and `lts`
--- about the system g.
+-- `IsNumbered` states two facts about the program. First, each reachable state of the system g has its class number
+-- (the quotient state that represents it). Second, the program leaves out a triple (`is_left_out`) if and only if the
+-- quotient modulo `rel` drops the transition that the triple denotes (`IsDropped`). All other fields of this record are
+-- theorems of the crates `theory` and `lts` about the system g.
 pub record IsNumbered (rel : Relation) (g : Grouped) (n : Numbering) (dropped : Option ℕ) : Type 0 where
   pub numbering : IsNumbering rel (system_of g) n
   pub drops : (x : Triple) → label_of x < length g.labels →

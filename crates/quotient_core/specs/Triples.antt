@@ -46,10 +46,11 @@ is_reached rows s = slice_index_or rows.n.reached.items s false
 abbrev pub is_member : Numbered → ℕ → ℕ → Bool
 is_member rows i s = is_reached rows s && (number_of rows s == i)
 
--- `ShowEachOther` holds if the following is true for any two reachable states s and t that the same quotient state
--- represents. A quotient transition is a transition between quotient states. Suppose that s has the same number of
--- quotient transitions as of transitions, so that no transition of s is left out. Then each quotient transition of t is
--- also a quotient transition of s.
+-- A quotient transition is a transition between quotient states. The quotient transitions of a state are those that
+-- come from the transitions of the state (`shown_by`). Let s and t be two reachable states that the same quotient state
+-- represents. Suppose that s has as many quotient transitions as it has transitions, so that no transition of s is left
+-- out. Then each quotient transition of t must also be a quotient transition of s. `ShowEachOther` holds if this is
+-- true for any two such states s and t.
 abbrev pub ShowEachOther : Numbered → Type 0
 ShowEachOther rows =
     (s t : ℕ) → IsTrue (is_reached rows s) → IsTrue (is_reached rows t) → number_of rows s ≡ number_of rows t →

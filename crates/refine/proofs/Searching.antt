@@ -117,7 +117,7 @@ module _ (u : Under) (s : ℕ) (lts : IsLts u.l) (laws : Laws)
 
     -- Let `new` be the data of the search after the search has read the transition e. Suppose that the search has
     -- explored e (`IsExplored`), and that `new` still has everything that the search had found before. Then `ReadsRow`
-    -- holds up to the index k + 1.
+    -- holds with k + 1 in place of k.
     reads : (new : FoundStates) → StartsWith new.states old.states → FindsFrom u s new i
         → ((e' : Triple) → IsExplored u s old e' → IsExplored u s new e') → IsExplored u s new e
         → ReadsRow u s first i start (k + 1) new
@@ -127,7 +127,7 @@ module _ (u : Under) (s : ℕ) (lts : IsLts u.l) (laws : Laws)
     }
 
     -- Suppose that the transition e is inert, and that the search reaches its target: if the target was not found
-    -- before, it is added to the found states. Then `ReadsRow` holds up to the index k + 1.
+    -- before, it is added to the found states. Then `ReadsRow` holds with k + 1 in place of k.
     goes : (new : FoundStates) → IsInert u (blocks s) e → Reaches (target_of e) old new
         → ReadsRow u s first i start (k + 1) new
     goes new inert (inl (was, is)) =
@@ -150,7 +150,7 @@ module _ (u : Under) (s : ℕ) (lts : IsLts u.l) (laws : Laws)
         }) keeps (search rules))
 
     -- Suppose that the transition e is not inert, and that the search collects its pair (label ID, target block). Then
-    -- `ReadsRow` holds up to the index k + 1.
+    -- `ReadsRow` holds with k + 1 in place of k.
     collects : (z : ℕ × ℕ) (new : FoundStates) → ¬ IsInert u (blocks s) e → z ≡ pair_under u.blocks e →
         new ≡ record old { pairs = old.pairs ++ z ∷ [] } → ReadsRow u s first i start (k + 1) new
     collects z new other pair is =
@@ -175,7 +175,8 @@ module _ (u : Under) (s : ℕ) (lts : IsLts u.l) (laws : Laws)
           shown = λ _. rw (← pair) (Contains-push old.pairs z);
         }))
 
-    -- Whether the transition e is inert or not, `ReadsRow` holds up to the index k + 1 after the search has explored e.
+    -- Suppose that the search has explored the transition e, which may be inert or not. Then `ReadsRow` holds with k +
+    -- 1 in place of k.
     pub went : (step : RowStep) (new : FoundStates) → IsStep u (blocks s) e step → ExploresStep step old new
         → ReadsRow u s first i start (k + 1) new
     went (Goes t) new (inert, is) reaches = goes new inert (subst (λ t. Reaches t old new) is reaches)
@@ -186,8 +187,8 @@ module _ (u : Under) (s : ℕ) (lts : IsLts u.l) (laws : Laws)
       ((s t : ℕ) → Inert A blocks s t → IsTrue (has s) → IsTrue (has t))
       → (s t : ℕ) → Leads (Inert A blocks) s t → IsTrue (has s) → IsTrue (has t))
       (f : FoundStates) (search : FindsFrom u s f (length f.states)) where
-    -- If the search has found the state x, then it has explored, for each step that x can make, the stored transition
-    -- for this step.
+    -- Suppose that the search has found the state x. For each step that x can make, there is a stored transition, and
+    -- the search has explored this transition.
     explored : (x : ℕ) (a : List ℕ) (y : ℕ) → WasFound f x → Step A x a y → (e : Triple) × (IsExplored u s f e
         × IsTriple (length u.l.labels) u.l.states e) × (text_of u.l.labels (label_of e) ≡ a) × (target_of e ≡ y)
     explored x a y on step =

@@ -27,7 +27,7 @@ use Rattle.refine_core.proofs.ActiveStates.{StepsAreRow, no_step}
 -- Suppose that each state is active (processed by the round), is in a singleton block, or has an empty signature. For
 -- branching bisimilarity, suppose also that only the empty signature is interned, and that its ID is cached for each
 -- state. For strong bisimilarity, suppose that all blocks count as new (`first_new` is 0). Then the data of the round
--- is ready for computing signatures, as if no round had run (`IsReadyToSign`).
+-- is ready for computing the signatures of a first round (`IsReadyToSign`).
 pub ready_discarded : (rel : Relation) (l : Grouped) (r : Signed) → length r.blocks.block_ids ≡ l.states
     → (rel ≡ Branching → HasNoSignatures r.blocks.block_ids r.signatures r.cached)
     → (rel ≡ Strong → r.blocks.first_new ≡ 0) → OthersKeepSignatures rel l None r.blocks → IsReadyToSign rel l None r

@@ -50,9 +50,9 @@ IsInner reach l of p = (reach ≡ Back)
 abbrev pub IsSearchIndex : Grouped → List ℕ → SearchIndex → Type 0
 IsSearchIndex l of e = IsIndex l (IsInner e.reach l of) e.index
 
--- `HasIndex` holds if the list `of` has the block ID of each state of the system `l`, and if `e` has a predecessor
--- index of this system (`IsSearchIndex`). The argument `reach` is how far a search in this index goes back along
--- transitions.
+-- `HasIndex` holds under three conditions. First, the list `of` has the block ID of each state of the system `l`.
+-- Second, `e` contains a predecessor index of this system (`IsSearchIndex`). Third, a search in this index goes back
+-- along transitions as far as the argument `reach` states.
 pub record HasIndex (reach : Reach) (l : Grouped) (of : List ℕ) (e : SearchIndex) : Type 0 where
   pub states : length of ≡ l.states
   pub index : IsSearchIndex l of e
@@ -69,10 +69,10 @@ abbrev pub IsAsked : Option ℕ → Grouped → List ℕ → ℕ → Type 0
 IsAsked block l of p = IfSome block (λ b. text_of l.labels (label_of (place_at l.places p)) ≡ internal)
     × IfSome block (λ b. slice_index of (source_of (place_at l.places p)) ≡ b)
 
--- Consider the transitions to the state t whose sources the search has to find (`IsAsked`). `FindsSources` holds if the
--- search has found all of these sources. Sources in singleton blocks need not be found. An inert transition is an
--- internal transition that does not leave its block. If `block` is the block of t, the search has to find the sources
--- of the inert transitions to t.
+-- The search has to find the sources of certain transitions to the state t (`IsAsked`). `FindsSources` holds if the
+-- search has found all of these sources, except that sources in singleton blocks need not be found. The argument
+-- `block` is `None` or a block. An inert transition is an internal transition that does not leave its block. If `block`
+-- is the block of t, the sources that the search has to find are the sources of the inert transitions to t.
 abbrev pub FindsSources : Option ℕ → Grouped → List ℕ → List ℕ → ℕ → Type 0
 FindsSources block l of found t = (p : ℕ) → p < length l.places → target_of (place_at l.places p) ≡ t
     → IsAsked block l of p → IsFoundOrSingleton of found (source_of (place_at l.places p))
@@ -112,11 +112,11 @@ ranges_of (Some b) x = x.internal
 abbrev pub IsNotLookedUp : List Triple → List ℕ → ℕ → Type 0
 IsNotLookedUp places visited t = All (λ k. ¬ (target_of (place_at places k) ≡ t)) visited
 
--- `HasLookedUp` is about the step of the search for the state t. The step must have found the sources of transitions to
--- t for which it asks (`FindsSources`). It must have kept all states that were found before, and must not have looked
--- up transitions to any other state. Before the step, the search had found the states in `before`, and had visited the
--- places (indices of transitions) in `old`. After the step, the search has found the states in `found`, and has visited
--- the places in `visited`.
+-- `HasLookedUp` is about the step of the search for the state t. The step has to find the sources of certain
+-- transitions to t, and must have found these sources (`FindsSources`). It must have kept all states that were found
+-- before, and must not have looked up transitions to any other state. Before the step, the search had found the states
+-- in `before`, and had visited the places (indices of transitions) in `old`. After the step, the search has found the
+-- states in `found`, and has visited the places in `visited`.
 pub record HasLookedUp (block : Option ℕ) (l : Grouped) (of : List ℕ) (t : ℕ) (before found old visited : List ℕ) :
     Type 0 where
   pub more : StartsWith found before

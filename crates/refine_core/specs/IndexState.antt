@@ -29,10 +29,10 @@ abbrev pub OthersKeepSignatures : Relation → Grouped → Option (List ℕ) →
 OthersKeepSignatures rel l old p = (s : ℕ) → s < l.states → IsMember p.active s ⊎ IsSingleton p.block_ids s
     ⊎ IsAsBefore rel l old p.block_ids s
 
--- `AreAllActiveOrIndexed` holds if there is a predecessor index of the system `l` (`HasIndex`). A search in this index
--- must go back along transitions as far as the relation `rel` requires (`reach_of`). The condition also holds if there
--- is no predecessor index, and if each state is active (processed by the round), is in a singleton block, or has no
--- transition.
+-- `AreAllActiveOrIndexed` holds in two cases. In the first case, there is a predecessor index of the system `l`
+-- (`HasIndex`), and a search in this index goes back along transitions as far as the relation `rel` requires
+-- (`reach_of`). In the second case, there is no predecessor index, and each state is active (processed by the round),
+-- is in a singleton block, or has no transition.
 abbrev pub AreAllActiveOrIndexed : IndexState → Relation → Grouped → RoundBlocks → Type 0
 AreAllActiveOrIndexed Absent rel l p = AreAllActive l p.block_ids p.active
 AreAllActiveOrIndexed (Searched e) rel l p = HasIndex (reach_of rel) l p.block_ids e
@@ -158,9 +158,9 @@ pub record SignsEach (rel : Relation) (l : Grouped) (old : Option (List ℕ)) (r
   pub cached : rel ≡ Branching → CachesIds l r.blocks.block_ids r.signatures r.cached (Some r.blocks.block_ids)
 
 -- `SignsRound` compares the data of a round before (p) and after (r) the signatures of its active states were computed.
--- The blocks and the predecessor index must be the same in p and r. Let `old` be any list of block IDs. If p was ready
--- for computing the signatures after a last round with the blocks `old` (`IsReadyToSign`), then the signatures in r
--- must be correct for `old` (`SignsEach`).
+-- The blocks and the predecessor index must be the same in p and r. Let `old` be any list of block IDs. Suppose that p
+-- was ready for computing the signatures if the blocks of the previous round were `old` (`IsReadyToSign`). Then the
+-- signatures in r must be correct if the blocks of the previous round were `old` (`SignsEach`).
 pub record SignsRound (rel : Relation) (l : Grouped) (p r : Signed) : Type 0 where
   pub blocks : r.blocks ≡ p.blocks
   pub index_state : r.index_state ≡ p.index_state

@@ -24,17 +24,18 @@ use std::marker::Model;
 /// all blocks divided by `LATE_ROUND_FRACTION`. The rounds after a late round usually have few states to process.
 const LATE_ROUND_FRACTION: u32 = 4;
 
-/// A round is late if few blocks are new. The method `SignedBlocks::needs_index` defines the work of a late round. The
-/// predecessor index is built at the latest when the work of all earlier late rounds together is at least this number
-/// times the number of all states. If states have many transitions, building the index takes as much time as three
-/// rounds that process all states.
+/// A round is late if few blocks are new. The method `SignedBlocks::needs_index` defines the work of a late round. This
+/// constant limits the work that is done before the predecessor index is built: if the work of all earlier late rounds
+/// together is at least this constant times the number of all states, the next late round builds the index. It may also
+/// be built earlier. If states have many transitions, building the index takes as much time as three rounds that
+/// process all states.
 const MOST_FULL_ROUNDS: u32 = 6;
 
 /// If states have few transitions, building the predecessor index takes less time, so the index is built after less
-/// work. Let n be the average number of transitions of a state, divided by `ROW_LENGTH_PER_FULL_ROUND`, but at most
-/// `MOST_FULL_ROUNDS`. The index is built in the first late round (a round in which few blocks are new) that satisfies
-/// this condition: the work of all earlier late rounds together (`SignedBlocks::needs_index`) is at least n times the
-/// number of all states.
+/// work. Let n be the average number of transitions of a state, divided by `ROW_LENGTH_PER_FULL_ROUND` and rounded
+/// down, but at most `MOST_FULL_ROUNDS`. The index is built in the first late round (a round in which few blocks are
+/// new) that satisfies one condition: the work of all earlier late rounds together is at least n times the number of
+/// all states. The method `SignedBlocks::needs_index` defines the work of a late round.
 const ROW_LENGTH_PER_FULL_ROUND: u32 = 2;
 
 /// A round without a predecessor index goes through all blocks. Going through this number of blocks takes less time
@@ -190,9 +191,10 @@ impl SignedBlocks {
         Ok(self)
     }
 
-    /// Builds the predecessor index if few blocks are new in this round, and if the earlier rounds in which few blocks
-    /// were new have done enough work (`needs_index`). If the index is built, each transition is visited (read and
-    /// counted) once, and all interned signatures except the empty signature are discarded.
+    /// A block is new if the last split has made it, and a round is late if few blocks are new. This method builds the
+    /// predecessor index if this round is late, and if the earlier late rounds together have done enough work
+    /// (`needs_index`). If the index is built, each transition is visited (read and counted) once, and all interned
+    /// signatures except the empty signature are discarded.
     pub fn begin_index<M: Meter>(
         mut self,
         l: &Lts<M>,
@@ -227,15 +229,16 @@ impl SignedBlocks {
         })
     }
 
-    /// Returns whether this round has to build the predecessor index. If a late round does not have to build the index,
-    /// the call adds the work of this round to `late_work`. A round is late if fewer than a quarter of the blocks are
-    /// new (made by the last split). The work of a late round without an index is the number of states that it
-    /// processes, plus the number of blocks divided by `BLOCKS_PER_STATE`.
+    /// Returns whether this round has to build the predecessor index. A block is new if the last split has made it, and
+    /// a round is late if fewer than a quarter of the blocks are new. The work of a late round without an index is the
+    /// number of states that it processes, plus the number of blocks divided by `BLOCKS_PER_STATE`.
     ///
-    /// Let n be half of the average number of transitions of a state (rounded down), but at most `MOST_FULL_ROUNDS`. A
-    /// late round has to build the index if the work of all late rounds before it is at least n times the number of all
-    /// states. So all late rounds without an index together take at most about twice as long as building the index. If
-    /// most states are in singleton blocks, a round processes few states, and the index is built later or never.
+    /// Let n be half of the average number of transitions of a state. The number n is rounded down, and is at most
+    /// `MOST_FULL_ROUNDS`. A late round has to build the index if the work of all late rounds before it is at least n
+    /// times the number of all states. If a late round does not have to build the index, the call adds the work of this
+    /// round to `late_work`. Because of the choice of n, all late rounds without an index together take at most about
+    /// twice as long as building the index. If most states are in singleton blocks, a round processes few states, and
+    /// the index is built later or never.
     fn needs_index<M: Meter>(&mut self, l: &Lts<M>) -> bool
         ensures { self.new ≡ self.old }
     {

@@ -24,9 +24,9 @@ use std::alloc::Global;
 pub trait Signing {
     ghost relation: { Relation };
 
-    /// Begins a round if there is no predecessor index yet. Builds the predecessor index if few of the blocks are
-    /// new, and if the earlier rounds in which few blocks were new have done enough work (`SignedBlocks::begin_index`).
-    /// A block is new if the last split has made it.
+    /// Begins a round if there is no predecessor index yet. A block is new if the last split has made it, and a round
+    /// is late if few blocks are new. This method builds the predecessor index if this round is late, and if the
+    /// earlier late rounds together have done enough work (`SignedBlocks::begin_index`).
     fn begin<M: Meter>(l: &Lts<M>, round: SignedBlocks, m: &mut M) -> Result<SignedBlocks, Memory>
         requires absent { round.index_state ≡ Absent }
         requires ready_for_round { Awaits relation l.now round }

@@ -64,17 +64,18 @@ module _ (list : List (ℕ × ℕ)) (rise : IsStrictlySortedBy pair_cmp list) (f
         let between = keys_between z d in (omega arith, omega arith));
   }
 
--- Suppose that `HasEnds` holds for a list and the numbers `low` and `high`. Among all numbers that are greater than
--- `low` and at most `high`, let c be the number that is divisible by the highest power of two (`IsCutPoint`). Then c is
--- the split point of the list, which is the number that divides the list into two halves (`IsCut`).
+-- Each pair is represented by a number (`pair_value`). Suppose that `HasEnds` holds for a list and the numbers `low`
+-- and `high`. Consider all numbers that are greater than `low` and at most `high`, and let c be the number among them
+-- that is divisible by the highest power of two (`IsCutPoint`). Then c is the split point of the list, which is the
+-- number that divides the list into two halves (`IsCut`).
 pub IsCut-ends : {list : List (ℕ × ℕ)} {low high bit c : ℕ} → HasEnds list low high → IsCutPoint bit low high c →
     IsCut list c
 IsCut-ends {list} {low} {high} {bit} {c} ends place =
     search (rules, ends.alike bit low high c place, ends.before, ends.after, place.after, place.within)
 
--- Suppose that `HasEnds` holds for the list xs and the numbers `low` and `high`, and also for the list ys and the
--- numbers `low'` and `high'`. Then `HasEnds` holds for the union of xs and ys and the least and the greatest of these
--- four numbers.
+-- Suppose that `HasEnds` holds for the list xs with the numbers `low` and `high`, and for the list ys with the numbers
+-- `low'` and `high'`. Let m be the lesser of `low` and `low'`, and let n be the greater of `high` and `high'`. Then
+-- `HasEnds` holds for the union of xs and ys with the numbers m and n.
 pub HasEnds-union : {list xs ys : List (ℕ × ℕ)} {low high low' high' : ℕ} → HasEnds xs low high
     → HasEnds ys low' high' → Unites list xs ys → HasEnds list (min low low') (max high high')
 HasEnds-union {list} {xs} {ys} {low} {high} {low'} {high'} first second unites = record {

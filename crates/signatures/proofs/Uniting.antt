@@ -18,8 +18,9 @@ use Rattle.signatures.proofs.Merging.{merged_has}
 use Rattle.signatures.proofs.Joining.{or_swap}
 use Rattle.signatures.proofs.Rising.{rising_fewer}
 
--- Each pair is represented by a number (`pair_value`). Suppose that the numbers of all pairs of a list are less than c,
--- or that all of them are at least c. Then c divides the list into the list itself and the empty list.
+-- Each pair is represented by a number (`pair_value`). If the numbers of all pairs of a list are less than c, then c
+-- divides the list into the list itself and the empty list. If the numbers of all pairs are at least c, then c divides
+-- the list into the empty list and the list itself.
 pub IsParted-under : {list : List (ℕ × ℕ)} {c : ℕ} → IsUnder list c → IsParted list c list []
 IsParted-under {list} under = record { joined = sym (append-nil list); under = under; over = search rules }
 

@@ -118,8 +118,9 @@ pub kept_still : {signatures lists' : List (List (ℕ × ℕ))} → Grow signatu
 kept_still grow u old new still s k was =
     grind (arith, was, was.signature, still, grow.longer, grow.same k was.within)
 
--- If the invariant of the search holds for `new`, and no state has changed its status since `old`, then the search has
--- gone on from `old` to `new` (`GoesOn`).
+-- Let `old` and `new` be the data of the search at two points. Suppose that the invariant of the search holds for
+-- `new`, and that no state has changed its status (unvisited, on the stack, or completed) since `old`. Then the search
+-- has gone on from `old` to `new` (`GoesOn`).
 pub stays_on : {u : Under} {signatures : List (List (ℕ × ℕ))} {old new : Search} → SearchInvariant u signatures new →
     new.stages ≡ old.stages → GoesOn u signatures signatures old new
 stays_on {signatures = signatures} walks same = grind (arith, walks, same, Grow-same signatures)

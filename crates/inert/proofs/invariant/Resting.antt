@@ -79,8 +79,9 @@ module _ {u : Under} {signatures : List (List (ℕ × ℕ))} {w : Search} (rests
   finished s found = finished_stage (stage_at w.stages s) found
       (λ p is. let on = rests.walks.opened.only s p is in omega (arith, on.0, ap (λ w. length w.stack) rests.empty))
 
--- A frame has the outgoing transitions of a state on the stack that are still to be read. If the invariant of the
--- search holds and there is no frame, then no search is in progress: all lists of the search are empty.
+-- Each frame belongs to a state on the stack, and has the outgoing transitions of this state that are still to be read.
+-- Suppose that the invariant of the search holds, and that there is no frame. Then no search is in progress, which
+-- means that all lists of the search are empty.
 pub walk_rests : {u : Under} {signatures : List (List (ℕ × ℕ))} {w : Search} → SearchInvariant u signatures w
     → length w.frames ≡ 0 → w ≡ nothing w.stages
 walk_rests {w = w} walks none =

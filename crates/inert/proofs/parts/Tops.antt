@@ -1,5 +1,5 @@
--- Helper definitions for the proofs about the search. They return parts of a search, such as the last root, which is
--- the first state of the component at the top of the stack.
+-- Helper definitions for the proofs about the search. They return parts of the data of a search. One of these parts is
+-- the last root, which is the first state of the component at the top of the stack.
 use Rattle.std.proofs.Common.{ℕ, ◌-◌, ◌<◌, ◌≤◌, List, length, take, get_or, arith}
 use Rattle.std.specs.List.{All, AllPairs}
 use Rattle.std.proofs.lemmas.Grind.{elements}

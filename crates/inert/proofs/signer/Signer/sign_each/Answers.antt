@@ -15,7 +15,8 @@ module _ (g : Over) (c : After-new-lens g) where
   is = c.new-lens.ensures ∙ ap₂ (under c.args.l.now) c.block_ids.ensures.block_ids c.any.ensures
 
   -- The depth-first search stores a status (unvisited, on the stack, or completed) for each state of the system. The
-  -- cached signature IDs are taken from these statuses, and satisfy the requirement of `sign_each` (`CachesBeside`).
+  -- status of a completed state contains the ID of its cached signature. The list of these cached IDs satisfies the
+  -- requirement of `sign_each` (`CachesBeside`).
   had : CachesBeside c.new-lens.result.l c.new-lens.result.blocks c.active-active.result.now c.args.signatures.now
       (cached c.self.inside.search.stages)
   had = rw (is, c.active-active.ensures.active, c.self.view_is) c.requires.cached
