@@ -7,15 +7,16 @@ use Rattle.partition.specs.Splitting.{Splits}
 use Rattle.refine_core.specs.Signatures.{list_of}
 use Rattle.refine_core.proofs.CallerLemmas.{Splits-signatures}
 
--- The list `signature_ids` has the ID of an interned signature for each state. The signature of the state s is the
--- interned signature with this ID.
+-- The list `signature_ids` has the ID of an interned signature for each state. Take the list that results from
+-- replacing each ID by the signature with this ID. In this list, the element at the index s is the signature of the
+-- state s.
 pub signature_is : (interned : List (List (ℕ × ℕ))) (signature_ids : List ℕ) (s : ℕ) → s < length signature_ids →
     list_at (map (list_at interned) signature_ids) s ≡ list_of interned signature_ids s
 signature_is interned signature_ids s h = get_or-map (list_at interned) signature_ids s 0 [] h
 
--- Suppose that the old blocks are split by the IDs of the signatures, and that the resulting blocks are then numbered
--- in the order of their least members. Then two states share a resulting block if and only if they shared an old block
--- and have equal signatures.
+-- Suppose that the old blocks are split by the IDs of the signatures of their states, and that the resulting blocks are
+-- then numbered in the order of their least members. Then two states share a resulting block if and only if they shared
+-- an old block and have equal signatures.
 pub split_alike : (interned signatures : List (List (ℕ × ℕ))) (signature_ids ns p old new q : List ℕ) (count more : ℕ)
     → map (list_at interned) signature_ids ≡ signatures → AreLists interned → AreIds interned signature_ids → ns
     ≡ signature_ids

@@ -8,13 +8,14 @@ use Rattle.refine.specs.declared.buffer.Span.{Span}
 use Rattle.refine.specs.Spans.{signatures_in, IsSpan}
 use Rattle.signatures.proofs.CallerLemmas.{All-only, slice_range-append, slice_range-last}
 
--- `Stores` holds if each span is a range of the buffer `pairs`, and the lists that are stored in these ranges are the
--- given lists.
+-- `Stores` holds under two conditions. First, each element of `spans` is a range of indices of the buffer `pairs`.
+-- Second, the ranges of the buffer contain the lists of `lists`, in the same order.
 pub record Stores (pairs : List (ℕ × ℕ)) (spans : List Span) (lists : List (List (ℕ × ℕ))) : Type 0 where
   pub ranges : All (IsSpan pairs) spans
   pub are : signatures_in pairs spans ≡ lists
 
--- If more pairs are appended to the buffer, then the list that is stored in each span does not change.
+-- Suppose that more pairs are appended to the buffer. Then each range of the buffer that stores a list still stores the
+-- same list.
 signatures_in-more : (pairs more : List (ℕ × ℕ)) (spans : List Span) → All (IsSpan pairs) spans →
     signatures_in (pairs ++ more) spans ≡ signatures_in pairs spans
 signatures_in-more pairs more [] are = refl
@@ -26,7 +27,7 @@ signatures_in-more pairs more (x ∷ xs) are =
     )
 
 -- Suppose that the pairs of a list are appended to the buffer, and that the span of this list is appended to the list
--- of spans. Then this list is the last stored list, and all other stored lists stay the same.
+-- of spans. Then the new list is the last stored list, and the stored lists before it are the same as before.
 pub Stores-push : {pairs : List (ℕ × ℕ)} {spans : List Span} {lists : List (List (ℕ × ℕ))} {new : Span}
     (list : List (ℕ × ℕ)) → Stores pairs spans lists → new.start ≡ length pairs → new.end ≡ length (pairs ++ list) →
     Stores (pairs ++ list) (spans ++ new ∷ []) (lists ++ list ∷ [])

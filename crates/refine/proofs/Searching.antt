@@ -1,5 +1,6 @@
--- Lemmas about a search along inert transitions. They show how each transition changes the search, and that the search
--- ends with the signature of the state at which it began.
+-- Lemmas about a search along inert transitions, which are internal transitions within a block. They show how the data
+-- of the search changes when the search explores a transition. They also show that, at the end of the search, the
+-- collected pairs are the signature of the state at which the search began.
 use Rattle.std.proofs.Common.{rules, ◌≡◌, ◌∙◌, ◌↔◌, ℕ, ◌+◌, ◌<◌, ◌≤◌, Bool, true, false, cond, eqb, IsTrue}
 use Rattle.std.proofs.Common.{List, [], ◌∷◌, ◌++◌, length, set, take, slice_index, slice_index_or, Contains, ap, sym}
 use Rattle.std.proofs.Common.{subst, refl, inl, inr, arith}
@@ -39,8 +40,8 @@ module _ (places : List Triple) where
   abbrev pub row_length : ℕ → ℕ
   row_length t = length (row_of t places)
 
-  -- If the states in a list are distinct, the sum of the numbers of their transitions is the number of the transitions
-  -- whose sources are in the list.
+  -- Suppose that the states in a list are distinct. Add up the numbers of transitions of these states. Then the sum is
+  -- the number of those transitions whose sources are in the list.
   rows_sum : (xs : List ℕ) → IsDistinct eqb xs
       → sum_by row_length xs ≡ length (filter (λ e. list_any (eqb (source_of e)) xs) places)
   rows_sum [] once = omega (arith, length-filter-sum (λ _. false) (λ _. false) (λ _. false) (λ _. refl) places)
@@ -56,27 +57,29 @@ module _ (places : List Triple) where
             (λ e. list_any (eqb (source_of e)) xs) (λ e. parts (source_of e)) places,
       )
 
-  -- If the states in a list are distinct, they have together at most as many transitions as there are in all.
+  -- Suppose that the states in a list are distinct. Then the states in the list together have at most as many
+  -- transitions as the whole system has.
   rows_few : (xs : List ℕ) → IsDistinct eqb xs → sum_by row_length xs ≤ length places
   rows_few xs once = search (rules, rows_sum, length-filter, count_by-le-length)
 
-  -- If the states in a list are distinct, the number of transitions of the first i states and of the next state is at
-  -- most the number of all transitions.
+  -- Suppose that the states in a list are distinct. Then the first i states of the list and the next state together
+  -- have at most as many transitions as the whole system has.
   pub rows_room : (xs : List ℕ) (i : ℕ) → IsDistinct eqb xs → i < length xs
       → sum_by row_length (take i xs) + row_length (slice_index xs i) ≤ length places
   rows_room xs i once h = omega (arith, rows_few xs once, sum_by_more_le row_length xs i 0 h)
 
-  -- If the states in a list are distinct, the number of their transitions is at least the number of transitions of the
-  -- first state, and at most the number of all transitions.
+  -- Suppose that the states in a list are distinct, and that the list is not empty. Then the number of the transitions
+  -- of these states is at least the number of transitions of the first state of the list, and at most the number of all
+  -- transitions.
   pub rows_all : (xs : List ℕ) (i : ℕ) → IsDistinct eqb xs → length xs ≤ i → 0 < length xs
       → (row_length (slice_index xs 0) ≤ sum_by row_length (take i xs))
       × (sum_by row_length (take i xs) ≤ length places)
   rows_all xs i once long some = rw (take_all i xs long) (get_or-le-sum_by row_length xs 0 0 some, rows_few xs once)
 
--- The place of a transition is its index in the list of all transitions. Consider the state at the index i in the list
--- of found states, whose transitions begin at the place `start`. `ReadsRow` holds while the search reads these
--- transitions. The data of the search was `first` before the search read them, and is f now. The search has explored
--- (`IsExplored`) the transitions from the place `start` up to but excluding the place k.
+-- `ReadsRow` holds while a search reads the transitions of one found state, which is at the index i in the list of the
+-- found states. The place of a transition is its index in the list of all transitions. The transitions of the found
+-- state begin at the place `start`. The search has explored (`IsExplored`) the transitions from the place `start` up to
+-- but excluding the place k. The data of the search was `first` before it read these transitions, and is f now.
 pub record ReadsRow (u : Under) (s : ℕ) (first : FoundStates) (i start k : ℕ) (f : FoundStates) : Type 0 where
   pub on : Continues u s first f i
   pub taken : (j : ℕ) → j < k → start ≤ j → IsExplored u s f (place_at u.l.places j)
@@ -93,8 +96,9 @@ module _ (u : Under) (s : ℕ) (lts : IsLts u.l) (laws : Laws)
   abbrev blocks : ℕ → ℕ
   blocks = slice_index u.blocks
 
-  -- The following lemmas assume that inert transitions lead from the state s to the state x, and that the search has
-  -- read the transitions of x up to but excluding the transition e, which is at the place (index) k.
+  -- The following lemmas assume that inert transitions lead from the state s to the state x, and that the search reads
+  -- the transitions of x. The transition e at the place k (its index in the list of all transitions) is a transition of
+  -- x. The search has read the transitions of x before e.
   module _ {first old : FoundStates} {i start k x : ℕ} (was : ReadsRow u s first i start k old)
       (led : LeadsInertly u s x) (at : k < length u.l.places) (from : source_of (place_at u.l.places k) ≡ x) where
     abbrev e : Triple
@@ -107,7 +111,7 @@ module _ (u : Under) (s : ℕ) (lts : IsLts u.l) (laws : Laws)
     its_step = let in_row = (sources x u.l.places e).1 (Contains-get_or u.l.places k (0, 0, 0) at, from) in
         (steps x _ (target_of e)).1 (e, in_row, refl, refl)
 
-    -- If the transition e is inert, inert transitions lead from s to its target.
+    -- Suppose that the transition e is inert. Then inert transitions lead from s to the target of e.
     leads_on : IsInert u (blocks s) e → LeadsInertly u s (target_of e)
     leads_on inert =
         laws.after A blocks s x (target_of e) led (
@@ -116,8 +120,9 @@ module _ (u : Under) (s : ℕ) (lts : IsLts u.l) (laws : Laws)
         )
 
     -- Let `new` be the data of the search after the search has read the transition e. Suppose that the search has
-    -- explored e (`IsExplored`), and that `new` still has everything that the search had found before. Then `ReadsRow`
-    -- holds with k + 1 in place of k.
+    -- explored e (`IsExplored`), and that everything that the search had found and explored before is still found and
+    -- explored in `new`. Then `ReadsRow`, the invariant of reading the transitions of a state, holds for `new` with k +
+    -- 1 in place of k.
     reads : (new : FoundStates) → StartsWith new.states old.states → FindsFrom u s new i
         → ((e' : Triple) → IsExplored u s old e' → IsExplored u s new e') → IsExplored u s new e
         → ReadsRow u s first i start (k + 1) new
@@ -126,8 +131,9 @@ module _ (u : Under) (s : ℕ) (lts : IsLts u.l) (laws : Laws)
       taken = below_more _ k (λ j low high. keeps _ (was.taken j low high)) (λ _. now);
     }
 
-    -- Suppose that the transition e is inert, and that the search reaches its target: if the target was not found
-    -- before, it is added to the found states. Then `ReadsRow` holds with k + 1 in place of k.
+    -- Suppose that the transition e is inert, and that the search reaches the target of e (`Reaches`): if the target
+    -- was not found before, it is added to the found states. Then `ReadsRow`, the invariant of reading the transitions
+    -- of a state, holds for the data after this step, with k + 1 in place of k.
     goes : (new : FoundStates) → IsInert u (blocks s) e → Reaches (target_of e) old new
         → ReadsRow u s first i start (k + 1) new
     goes new inert (inl (was, is)) =
@@ -149,8 +155,9 @@ module _ (u : Under) (s : ℕ) (lts : IsLts u.l) (laws : Laws)
               (λ k l is. keeps _ (found.taken j h k l is));
         }) keeps (search rules))
 
-    -- Suppose that the transition e is not inert, and that the search collects its pair (label ID, target block). Then
-    -- `ReadsRow` holds with k + 1 in place of k.
+    -- Suppose that the transition e is not inert, and that the search collects the pair (label ID, target block) of e.
+    -- Then `ReadsRow`, the invariant of reading the transitions of a state, holds for the data after this step, with k
+    -- + 1 in place of k.
     collects : (z : ℕ × ℕ) (new : FoundStates) → ¬ IsInert u (blocks s) e → z ≡ pair_under u.blocks e →
         new ≡ record old { pairs = old.pairs ++ z ∷ [] } → ReadsRow u s first i start (k + 1) new
     collects z new other pair is =
@@ -175,20 +182,20 @@ module _ (u : Under) (s : ℕ) (lts : IsLts u.l) (laws : Laws)
           shown = λ _. rw (← pair) (Contains-push old.pairs z);
         }))
 
-    -- Suppose that the search has explored the transition e, which may be inert or not. Then `ReadsRow` holds with k +
-    -- 1 in place of k.
+    -- Suppose that the search has explored the transition e, which may be inert or not. Then `ReadsRow`, the invariant
+    -- of reading the transitions of a state, holds for the data after this step, with k + 1 in place of k.
     pub went : (step : RowStep) (new : FoundStates) → IsStep u (blocks s) e step → ExploresStep step old new
         → ReadsRow u s first i start (k + 1) new
     went (Goes t) new (inert, is) reaches = goes new inert (subst (λ t. Reaches t old new) is reaches)
     went (Shows a b) new (other, is) takes = collects (a, b) new other is takes
 
-  -- The following lemmas assume that the search has read the transitions of all states that it has found.
+  -- The following lemmas assume that the search has explored all transitions of all states that it has found.
   module _ (kept : (A : System) (blocks : ℕ → ℕ) (has : ℕ → Bool) →
       ((s t : ℕ) → Inert A blocks s t → IsTrue (has s) → IsTrue (has t))
       → (s t : ℕ) → Leads (Inert A blocks) s t → IsTrue (has s) → IsTrue (has t))
       (f : FoundStates) (search : FindsFrom u s f (length f.states)) where
-    -- Suppose that the search has found the state x. For each step that x can make, there is a stored transition, and
-    -- the search has explored this transition.
+    -- Suppose that the search has found the state x, and that a step leads from x to a state y. Then this step is
+    -- stored as a transition, and the search has explored this transition.
     explored : (x : ℕ) (a : List ℕ) (y : ℕ) → WasFound f x → Step A x a y → (e : Triple) × (IsExplored u s f e
         × IsTriple (length u.l.labels) u.l.states e) × (text_of u.l.labels (label_of e) ≡ a) × (target_of e ≡ y)
     explored x a y on step =
@@ -210,8 +217,8 @@ module _ (u : Under) (s : ℕ) (lts : IsLts u.l) (laws : Laws)
         subst (WasFound f) target
         (done.followed (label, ap blocks target ∙ inert.1 ∙ stays A blocks s x (all_led x on)))
 
-    -- When the search has read the transitions of all states that it has found, it has found each state to which inert
-    -- transitions lead from s.
+    -- Suppose that inert transitions lead from the state s, at which the search began, to the state x. Then the search
+    -- has found x.
     all_found : (x : ℕ) → LeadsInertly u s x → WasFound f x
     all_found x ties =
         kept A blocks (λ y. slice_index_or f.marked y false) closed s x ties
@@ -227,7 +234,7 @@ module _ (u : Under) (s : ℕ) (lts : IsLts u.l) (laws : Laws)
         (done.shown (λ inert. other (sym label ∙ inert.0, sym block ∙ ap blocks (sym target) ∙ inert.1)))
 
     -- Suppose that the collected pairs are sorted in ascending order, and that duplicates are removed. Then the result
-    -- is the signature of the state s.
+    -- is the branching signature of the state s, at which the search began.
     pub signed : (zs : List (ℕ × ℕ)) → IsStrictlySortedBy pair_cmp zs →
         ((z : ℕ × ℕ) → Contains zs z ↔ Contains f.pairs z) → IsSignature Branching u.l u.blocks s zs
     signed zs ascending same = record {
@@ -235,8 +242,8 @@ module _ (u : Under) (s : ℕ) (lts : IsLts u.l) (laws : Laws)
       ascending = ascending;
     }
 
--- Suppose that no state was marked before the search has reached the state s. Then the invariant of the search holds
--- when the search has found s and has read no transition.
+-- Suppose that no state is marked and that the search then reaches the state s as its first state. Then the invariant
+-- of the search (`FindsFrom`) holds: the search has found s, and has not explored any transition yet.
 pub begun : (u : Under) (s : ℕ) (marked : List Bool) (new : FoundStates) → Laws → s < length marked
     → length marked ≡ u.l.states → IsUnmarked marked
     → Reaches s (record { marked = marked; states = []; pairs = [] }) new → FindsFrom u s new 0

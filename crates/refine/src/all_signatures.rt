@@ -116,8 +116,9 @@ impl Signatures {
     }
 }
 
-/// Copies the blocks of `p` for a round that processes all states. All blocks of the copy count as new (`first_new` is
-/// 0), so the round computes the signature of each state.
+/// Copies the blocks of `p` for a computation of the signatures of all states. In the copy, all states are active
+/// (processed by a round), and all blocks count as new (`first_new` is 0). So a round computes the signature of each
+/// state.
 fn copied(alloc: Global, p: &Partition) -> Result<Blocks, Memory>
     ensures block_ids { IfOk result (λ b. b.block_ids ≡ p.now) }
     ensures first_new { IfOk result (λ b. b.first_new ≡ 0) }

@@ -1,5 +1,5 @@
-//! Stores a copy of all lists of an `Interner`, which is a type of the crate `signatures` that stores each signature
-//! once, as a list of pairs. The lists are stored in one buffer, one list after the other, so that each list can be
+//! Stores a copy of all lists of an `Interner`. The type `Interner` of the crate `signatures` stores each signature
+//! once, as a list of pairs. The copies are stored in one buffer, one list after the other, so that each list can be
 //! read as a slice.
 ghost use Rattle.std.specs.Prelude.{◌≡◌, ◌<◌, length, IfOk};
 ghost use Rattle.signatures.specs.Lists.{list_at, AreLists};
@@ -9,8 +9,8 @@ use signatures::Interner;
 use std::alloc::Global;
 use std::marker::Model;
 
-/// A sequence of different lists of pairs (label ID, block ID). Each list is stored as a range of one buffer. The list
-/// with the ID `EMPTY` is the empty list.
+/// A sequence of different lists of pairs (label ID, block ID). Each list is stored as a range of one buffer. The ID of
+/// a list is its index in the sequence. The first list has the ID `EMPTY` and is empty.
 #[derive(Drop)]
 pub struct SignatureBuffer {
     pairs: Vec<(u32, u32)>,
@@ -40,7 +40,7 @@ impl Model for SignatureBuffer {
 }
 
 impl SignatureBuffer {
-    /// Copies all lists of `interned`.
+    /// Copies all lists of `interned`. Each list keeps its ID.
     pub fn new(alloc: Global, interned: &Interner) -> Result<SignatureBuffer, Memory>
         ensures { IfOk result (λ x. x ≡ interned.now) }
     {

@@ -7,8 +7,8 @@
 //! * `all_signatures` computes the signature of each state, and splits the blocks by these signatures.
 //! * `buffer` stores the signatures, each as a slice of one buffer.
 //! * `sense` computes the signature of one state, for strong or for branching bisimilarity.
-//! * `search` finds the states to which inert transitions lead from a state. The branching signature of the state has
-//!   the pairs of those transitions of these states that are not inert.
+//! * `search` finds the states to which inert transitions lead from a state. The branching signature of this state has
+//!   the pair of each transition that starts in a found state and is not inert.
 //!
 //! A call that returns a `Result` fails only if an allocation fails. The error is then `Memory`.
 #![tactic(auto)]

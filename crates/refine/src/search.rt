@@ -1,5 +1,5 @@
 //! Computes the branching signature of one state by a search along inert transitions, which are internal transitions
-//! within a block. The search reads the transitions of each state that it finds exactly once.
+//! within a block. The search reads each outgoing transition of each found state exactly once.
 ghost use Rattle.std.specs.Prelude.{◌≡◌, ℕ, ◌+◌, ◌<◌, ◌≤◌, [], length, slice_index, IfOk, OnOk};
 ghost use Rattle.theory.specs.declared.relation.Relation.TheVariants.{Branching};
 ghost use Rattle.lts.specs.Meter.{HasRoomFor, Visits};
@@ -23,8 +23,8 @@ pub(crate) struct Search {
     marked: Vec<bool>,
     /// The states that were found, in the order in which they were found.
     states: Vec<u32>,
-    /// The pairs (label ID, block ID) that the search has collected. The search collects one pair for each transition
-    /// that is not inert and whose source it has found.
+    /// The pairs that the search has collected. For each transition that is not inert and starts in a found state, the
+    /// search collects one pair: the label ID of the transition, and the block ID of its target.
     pub pairs: Vec<(u32, u32)>,
 }
 
@@ -52,9 +52,9 @@ impl Search {
         })
     }
 
-    /// Stores the branching signature of the state `s` in `pairs`. The time that the call takes depends only on the
-    /// states that the search finds, and not on the number of all states. If an allocation fails, the call clears all
-    /// marks, which takes time proportional to the number of all states.
+    /// Stores the branching signature of the state `s` in `pairs`. The time that the call takes depends on the states
+    /// that the search finds and on their transitions, but not on the number of all states. If an allocation fails, the
+    /// call clears the marks of all states, which takes time proportional to the number of all states.
     pub fn sign<'a, M: Meter>(
         &mut self,
         l: &'a Lts<M>,
@@ -88,8 +88,9 @@ impl Search {
         }
     }
 
-    /// Finds the states to which inert transitions lead from `s`, including `s` itself. Collects the pairs (label ID,
-    /// block ID of the target) of all transitions of these states that are not inert.
+    /// Finds the states to which inert transitions lead from `s`, including `s` itself. For each transition of these
+    /// states that is not inert, the function collects a pair: the label ID of the transition, and the block ID of its
+    /// target.
     #[tactic(auto, using(crate::proofs::Searching::rows_room, crate::proofs::Searching::rows_all))]
     fn find<M: Meter>(&mut self, lens: &Lens<M>, s: u32, m: &mut M) -> Result<(), Memory>
         requires visited { lens.now.visited ≡ [] }
@@ -114,8 +115,8 @@ impl Search {
     }
 
     /// Reads the transitions of one state that the search has found. This state is at the index `i` in the list of
-    /// found states. The targets of the inert transitions become found states, too, and the pairs of the other
-    /// transitions are collected.
+    /// found states. The targets of its inert transitions become found states, too. The pairs (label ID, target block)
+    /// of its other transitions are collected.
     fn read<M: Meter>(&mut self, lens: &Lens<M>, s: u32, i: usize, m: &mut M) -> Result<(), Memory>
         requires visited { lens.now.visited ≡ [] }
         requires found { FindsFrom lens.now s self.old i }

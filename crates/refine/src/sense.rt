@@ -16,7 +16,7 @@ use std::alloc::Global;
 use std::marker::Model;
 
 /// The working memory for computing signatures. The same memory can be used for many states and for many rounds. The
-/// signatures that were computed before do not affect the signatures that are computed later.
+/// result of a computation does not depend on the computations for which the memory was used before.
 #[derive(Drop)]
 pub struct Marks {
     states: u32,
@@ -54,12 +54,13 @@ impl Marks {
     }
 }
 
-/// A relation for which the signature of a single state can be computed: strong or branching bisimilarity (`Strong` or
-/// `Branching`). A round of refinement calls the functions of the trait `Signing`, which this crate does not export.
+/// A relation for which the signature of a single state can be computed. It is strong or branching bisimilarity
+/// (`Strong` or `Branching`). The functions that a round of refinement calls are in the trait `Signing`, which this
+/// crate does not export.
 pub trait Sense: Signing {
-    /// Appends to `out` the signature of the state `s` with respect to the blocks of `p`. The signature is a list of
-    /// pairs of label ID and block ID in ascending order, without duplicates. If the call fails, it is unspecified
-    /// which pairs were appended.
+    /// Appends the signature of the state `s` with respect to the blocks of `p` to `out`. The signature is a list of
+    /// pairs (label ID, block ID) in ascending order, without duplicates. If the call fails, it is unspecified which
+    /// pairs were appended to `out`.
     fn signature<M: Meter>(
         l: &Lts<M>,
         p: &Partition,

@@ -22,15 +22,15 @@ use Rattle.refine_core.specs.Signatures.{list_of}
 use Rattle.refine_core.specs.Shown.{HasNewBlock, IsStrongSplitSignature}
 use Rattle.refine_core.proofs.Showing.{IsUnaffected, unaffected_as_before, affected_changed}
 
--- `StepsAreRow` holds if the definition `Step` agrees with the row of the state s, which is the list of the stored
--- transitions from s. There must be a step from s to t with the label a if and only if the row has a transition to t
--- whose label ID denotes a.
+-- `StepsAreRow` is about the row of the state s, which is the list of the stored transitions from s. It holds if, for
+-- each label a and each state t, the step s -a-> t exists (`Step`) if and only if the row has a transition to t whose
+-- label ID denotes a.
 abbrev pub StepsAreRow : Grouped → ℕ → Type 0
 StepsAreRow l s = (a : List ℕ) (t : ℕ) → Step (system_of l) s a t ↔ ((e : Triple) × Contains (row_of s l.places) e
     × (text_of l.labels (label_of e) ≡ a) × (target_of e ≡ t))
 
--- `StepAt` holds if the step s -a-> t is stored as the transition at the place `place`, which is an index in the list
--- of all transitions.
+-- `StepAt` holds if the step s -a-> t is stored as the transition at the place `place`. The place of a transition is
+-- its index in the list of all transitions.
 pub record StepAt (l : Grouped) (s : ℕ) (a : List ℕ) (t : ℕ) : Type 0 where
   pub place : ℕ
   pub below : place < length l.places
@@ -41,8 +41,8 @@ pub record StepAt (l : Grouped) (s : ℕ) (a : List ℕ) (t : ℕ) : Type 0 wher
 pub step_at : (l : Grouped) (s : ℕ) (a : List ℕ) (t : ℕ) → Step (system_of l) s a t → StepAt l s a t
 step_at l s a t step = grind (arith, common_steps, length-map, get_or-map)
 
--- Suppose that the row of the state s, which is the list of the stored transitions from s, is empty. Then the
--- definition `Step` gives no step from s.
+-- Suppose that the row of the state s, which is the list of the stored transitions from s, is empty. Then no step leads
+-- from s to any state.
 pub no_step : (l : Grouped) (s : ℕ) → StepsAreRow l s → row_of s l.places ≡ [] → (a : List ℕ) (t : ℕ)
     → ¬ Step (system_of l) s a t
 no_step l s steps empty a t step = let found = (steps a t).0 step in grind (arith, common_steps)
@@ -50,49 +50,50 @@ no_step l s steps empty a t step = let found = (steps a t).0 step in grind (arit
 module _ (l : Grouped) (blocks : List ℕ) (s : ℕ) (h : IsLts l)
     (sources : (e : Triple) → Contains (row_of s l.places) e ↔ (Contains l.places e × (source_of e ≡ s)))
     (steps : StepsAreRow l s) where
-  -- The pair of a transition consists of its label ID and the block ID of its target. This is the list of the pairs of
-  -- the transitions of s.
+  -- `pairs` is the list of the pairs of the transitions of the state s. The pair of a transition consists of its label
+  -- ID and the block ID of its target.
   abbrev pairs : List (ℕ × ℕ)
   pairs = map (pair_under blocks) (row_of s l.places)
 
-  -- The pair of a transition consists of its label ID and the block ID of its target. If the signature of the state s
-  -- contains a pair, then it is the pair of some transition of s.
+  -- The pair of a transition consists of its label ID and the block ID of its target. Each pair in the strong signature
+  -- of the state s is the pair of some transition of s.
   pair_has : (k b : ℕ) → HasPair Strong l blocks s k b → Contains pairs (k, b)
   pair_has k b has =
       let found = (steps (text_of l.labels k) has.1.0).0 has.1.1 in
       grind (arith, common_steps, h.table.different, contains_mapped)
 
-  -- The pair of a transition consists of its label ID and the block ID of its target. The signature of the state s
-  -- contains the pair of each transition of s.
+  -- The pair of a transition consists of its label ID and the block ID of its target. The pair of each transition of
+  -- the state s is in the strong signature of s.
   has : (z : ℕ × ℕ) → Contains pairs z → HasPair Strong l blocks s z.0 z.1
   has z c =
       let (e, at, is) = mapped_contains (pair_under blocks) (row_of s l.places) z c in
       let triple = All-contains (IsTriple (length l.labels) l.states) l.places e h.in_range.each ((sources e).0 at).0 in
       rw (sym is) (triple.label, (target_of e, (steps _ (target_of e)).1 (e, at, refl, refl), refl))
 
-  -- In the following lemmas, the list zs contains exactly the pairs of the transitions of s, in strictly ascending
-  -- order.
+  -- In the following lemmas, the list zs contains exactly the pairs (label ID, block ID of the target) of the
+  -- transitions of the state s, in strictly ascending order.
   module _ (zs : List (ℕ × ℕ)) (ascending : IsStrictlySortedBy pair_cmp zs)
       (same : (z : ℕ × ℕ) → Contains zs z ↔ Contains pairs z) where
-    -- If the list zs contains exactly the pairs of the transitions of s, then zs is the signature of s.
+    -- Suppose that the list zs contains exactly the pairs (label ID, block ID of the target) of the transitions of the
+    -- state s, in strictly ascending order. Then zs is the strong signature of s.
     pub row_signature : IsSignature Strong l blocks s zs
     row_signature = record {
       exactly = λ k b. (λ c. has (k, b) ((same (k, b)).0 c), λ p. (same (k, b)).1 (pair_has k b p));
       ascending = ascending;
     }
 
-    -- A block is new if the last split has made it. If some transition of the state s leads to a new block, the
-    -- signature of s has changed since the last round. So the split signature of s, by which the split separates s from
-    -- other states of its block, is the new signature.
+    -- A block is new if the last split has made it. Suppose that some transition of the state s leads to a new block.
+    -- Then the signature of s has changed since the last round. So the split signature of s, by which the split
+    -- separates s from other states of its block, is the new signature.
     pub row_affected : (first_new : ℕ) → HasNewBlock first_new pairs → IsStrongSplitSignature l blocks first_new s zs
     row_affected first_new (z, in_row, new) old follows =
         let (t, step, target) = (has z in_row).1 in
         let other = affected_changed l h.system old blocks first_new follows s _ t step (omega (arith, new, target)) in
         inr (λ none. absurd (omega (arith, (rw none at ((same z).1 in_row)).1)), other, row_signature)
 
-  -- A block is new if the last split has made it. If no transition of the state s leads to a new block, the signature
-  -- of s is the same as in the last round. So the split signature of s, by which the split separates s from other
-  -- states of its block, is empty.
+  -- A block is new if the last split has made it. Suppose that no transition of the state s leads to a new block. Then
+  -- the signature of s is the same as in the last round. So the split signature of s, by which the split separates s
+  -- from other states of its block, is empty.
   pub row_unaffected : (first_new : ℕ) → ¬ HasNewBlock first_new pairs → IsStrongSplitSignature l blocks first_new s []
   row_unaffected first_new none old follows =
       let still : IsUnaffected (system_of l) (slice_index blocks) first_new s = λ a t step.
@@ -102,13 +103,15 @@ module _ (l : Grouped) (blocks : List ℕ) (s : ℕ) (h : IsLts l)
       omega (arith, apart, ap (slice_index blocks) target) in
       inl (refl, unaffected_as_before l h.system old blocks first_new follows s still)
 
--- The loop reads the outgoing transitions of a state. If their number is odd, the loop reads the first transition on
--- its own. It reads all other transitions two at a time.
+-- The outgoing transitions of a state have the places (indices) from `start` up to but excluding `end`. Let k be
+-- `start` if the number of these transitions is even, and `start` + 1 otherwise. Then the number of transitions from
+-- the place k on is even. So the function `read` can read these transitions two at a time.
 pub by_two : (start end k count : ℕ) → end ≡ start + count → k ≡ start + (end - start) % 2 → (n : ℕ) × (end ≡ k + n * 2)
 by_two start end k count all is = ((end - start) / 2, omega (arith, all, is))
 
--- Let the transitions of the state s begin at the place (index) `start` in the list of all transitions. Then `pairs_to
--- k` is the list of the pairs of the transitions of s from the place `start` up to but excluding the place k.
+-- Let `start` be the place of the first transition of the state s, where the place of a transition is its index in the
+-- list of all transitions. The transitions of s follow each other in this list. The list `pairs_to k` has the pairs of
+-- the transitions of s from the place `start` up to but excluding the place k.
 module _ (blocks : List ℕ) (places : List Triple) (s start : ℕ) where
   abbrev pub pairs_to : ℕ → List (ℕ × ℕ)
   pairs_to k = map (pair_under blocks) (take (k - start) (row_of s places))
@@ -116,9 +119,10 @@ module _ (blocks : List ℕ) (places : List Triple) (s start : ℕ) where
   pub pairs_none : [] ≡ pairs_to start
   pairs_none = search rules
 
-  -- A place is an index in the list of all transitions. Suppose that a list has the pairs of the transitions of s
-  -- before the place k. If the pair of the transition at the place k is appended, then the list has the pairs of the
-  -- transitions of s before the place k + 1.
+  -- The place of a transition is its index in the list of all transitions. Suppose that a list has exactly the pairs of
+  -- those transitions of the state s that are before the place k. If the pair of the transition at the place k is
+  -- appended to this list, then the list has exactly the pairs of those transitions of s that are before the place k +
+  -- 1.
   pub pairs_more : (k next : ℕ) {label target : ℕ} {pairs new : List (ℕ × ℕ)}
       → take ((k + 1) - start) (row_of s places) ≡ take (k - start) (row_of s places) ++ place_at places k ∷ []
       → next ≡ k + 1 → label ≡ (place_at places k).1 → target ≡ (place_at places k).2 → pairs ≡ pairs_to k
@@ -126,22 +130,24 @@ module _ (blocks : List ℕ) (places : List Triple) (s start : ℕ) where
   pairs_more k next {label = label} {target = target} row is_next is_label is_target before after =
       grind (arith, common_steps)
 
--- If no transition was visited yet, then the number of unvisited transitions of a state is the number of all its
--- transitions.
+-- Suppose that no transition was visited yet. Then the number of unvisited transitions of a state is the number of all
+-- transitions of this state.
 pub row_all : (visited : List ℕ) (places : List Triple) (s : ℕ) → visited ≡ []
     → length (row_of s (remaining_of visited places)) ≡ length (row_of s places)
 row_all visited places s none =
     ap (λ es. length (row_of s es)) (ap (λ visited. remaining_of visited places) none ∙ left_none places)
 
--- `HasGot` holds if the state s has the ID of an interned signature, and if P holds for s and this signature.
+-- `HasGot` holds under two conditions. First, the ID that the list `signature_ids` has for the state s is the ID of an
+-- interned signature. Second, the condition P holds for s and this signature.
 pub record HasGot (P : ℕ → List (ℕ × ℕ) → Type 0) (signatures : List (List (ℕ × ℕ))) (signature_ids : List ℕ) (s : ℕ) :
     Type 0 where
   pub within : slice_index signature_ids s < length signatures
   pub holds : P s (list_of signatures signature_ids s)
 
--- The active states are the states that the round processes. Suppose that each of the first i active states has a
--- signature for which P holds (`HasGot`). If the next active state gets the signature with the ID k, and P holds for
--- this signature, then the first i + 1 active states have signatures for which P holds.
+-- The active states are the states that the round processes, and P is a condition on a state and a signature. Suppose
+-- that P holds for each of the first i active states and its signature (`HasGot`). Suppose also that the next active
+-- state gets the signature with the ID k, and that P holds for this state and this signature. Then P holds for each of
+-- the first i + 1 active states and its signature.
 pub signed_more : {P : ℕ → List (ℕ × ℕ) → Type 0} {signatures signatures' : List (List (ℕ × ℕ))}
     {signature_ids active : List ℕ} {states i k : ℕ} → Grow signatures signatures' → AreActive states active
     → length signature_ids ≡ states → i < length active
@@ -151,7 +157,8 @@ pub signed_more : {P : ℕ → List (ℕ × ℕ) → Type 0} {signatures signatu
 signed_more grow rises size more before within this = search rules
 
 -- The active states are the states that the round processes. Suppose that every state that is not active has the
--- signature ID 0. Then this is still true after an active state has got another signature ID.
+-- signature ID 0. If the signature ID of an active state is then changed, every state that is not active still has the
+-- signature ID 0.
 pub inactive_none_more : (signature_ids active : List ℕ) (i k : ℕ) → i < length active
     → InactiveHaveNone active signature_ids → InactiveHaveNone active (set signature_ids (slice_index active i) k)
 inactive_none_more signature_ids active i k more none t h = grind (arith, common_steps, get_or-set_other, length-set)

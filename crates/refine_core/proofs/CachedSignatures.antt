@@ -25,9 +25,9 @@ use Rattle.refine_core.proofs.Showing.{Labelled, equal_represented, label_id_of}
 use Rattle.refine_core.proofs.ActiveStates.{StepsAreRow, no_step}
 
 -- Suppose that each state is active (processed by the round), is in a singleton block, or has an empty signature. For
--- branching bisimilarity, suppose also that only the empty signature is interned, and that its ID is cached for each
--- state. For strong bisimilarity, suppose that all blocks count as new (`first_new` is 0). Then the data of the round
--- is ready for computing the signatures of a first round (`IsReadyToSign`).
+-- branching bisimilarity, suppose also that only the empty signature is interned, and that each state has the cached ID
+-- of this signature. For strong bisimilarity, suppose also that all blocks count as new (`first_new` is 0). Then the
+-- data of the round is ready for computing the signatures, as if no round had run before (`IsReadyToSign`).
 pub ready_discarded : (rel : Relation) (l : Grouped) (r : Signed) → length r.blocks.block_ids ≡ l.states
     → (rel ≡ Branching → HasNoSignatures r.blocks.block_ids r.signatures r.cached)
     → (rel ≡ Strong → r.blocks.first_new ≡ 0) → OthersKeepSignatures rel l None r.blocks → IsReadyToSign rel l None r
@@ -45,7 +45,8 @@ ready_discarded rel l r size discarded first others = record {
   empty = λ branching none. (discarded branching).empty;
 }
 
--- If the branching signature of a state is empty, then its branching signature in the last round was empty, too.
+-- Suppose that the blocks result from splitting the blocks of the last round (`WasSplit`), and that the branching
+-- signature of a state is empty. Then the branching signature of this state in the last round was empty, too.
 pub empty_was : (l : Grouped) → IsSystem (system_of l) → (old : Option (List ℕ)) (of : List ℕ)
     → WasSplit Branching l old of → (s : ℕ) → s < l.states → HasEmptySignature (system_of l) (slice_index of) s
     → (a : List ℕ) (b : ℕ) → ¬ Was Branching l old s a b
@@ -53,7 +54,8 @@ empty_was l sys None of was s ls none = λ a b h. h
 empty_was l sys (Some old) of was s ls none =
     empty_before (system_of l) sys (slice_index old) (slice_index of) (λ s t ls lt e. ((was s t ls lt).0 e).0) s ls none
 
--- If a state has no transition, then its signature is empty for any blocks.
+-- Suppose that a state has no transition. Then its signature in the last round was empty, whichever blocks the last
+-- round had.
 empty_row : (rel : Relation) (l : Grouped) (s : ℕ) → StepsAreRow l s → row_of s l.places ≡ [] → (old : Option (List ℕ))
     (a : List ℕ) (b : ℕ) → ¬ Was rel l old s a b
 empty_row rel l s steps empty None a b was = was
@@ -72,8 +74,9 @@ all_active_as_before rel l steps old p all s h = ⊎_map (λ one. one) (⊎_map 
     let none = empty_row rel l s (steps s) empty in
     (λ can. absurd (none (Some p.block_ids) a b can), λ was. absurd (none old a b was)))) (all s h)
 
--- These lemmas are about the data r of a round: the blocks, the states to process, the signatures, and the predecessor
--- index. They assume that r is ready for computing branching signatures (`IsReadyToSign`).
+-- These lemmas are about r, the data of a round (`Signed`): the blocks, the active states (the states to process), the
+-- signatures, and the predecessor index. The lemmas assume that r is ready for computing branching signatures
+-- (`IsReadyToSign`).
 module _ (l : Grouped) (labelled : Labelled l) (sys : IsSystem (system_of l)) (old : Option (List ℕ)) (r : Signed)
     (size : length r.blocks.block_ids ≡ l.states) (ready : IsReadyToSign Branching l old r) where
   abbrev of : List ℕ
@@ -82,8 +85,8 @@ module _ (l : Grouped) (labelled : Labelled l) (sys : IsSystem (system_of l)) (o
   abbrev active : List ℕ
   active = r.blocks.active
 
-  -- Each state is active (processed by the round), is in a singleton block, or has the ID of its present signature in
-  -- the cache.
+  -- For each state, the cache has the ID of a signature. Each state is active (processed by the round), is in a
+  -- singleton block (a block with one state), or has the ID of its present signature in the cache.
   active_or_cached : (s : ℕ) → s < l.states → IsMember active s ⊎ IsSingleton of s
       ⊎ IsSignature Branching l of s (list_of r.signatures r.cached s)
   active_or_cached s h = elim (ready.others s h) [
@@ -95,8 +98,9 @@ module _ (l : Grouped) (labelled : Labelled l) (sys : IsSystem (system_of l)) (o
     }) ((ready.cached refl).each s h))
   ]
 
-  -- The active states are the states that the round processes. If a state shares a block with an active state, then it
-  -- is active too, or the cache has the ID of its present signature.
+  -- For each state, the cache has the ID of a signature. Suppose that the state s shares a block with an active state,
+  -- which is a state that the round processes. Then s is active, too, or the cache has the ID of the present signature
+  -- of s.
   pub cached_beside : CachesBeside l of active r.signatures r.cached
   cached_beside = let keeps = ready.cached refl in record {
     states = keeps.states;
@@ -114,16 +118,18 @@ module _ (l : Grouped) (labelled : Labelled l) (sys : IsSystem (system_of l)) (o
     within : (s : ℕ) → s < l.states → slice_index r.cached s < length r.signatures
     within s h = let keeps = ready.cached refl in keeps.signature_ids s 0 (omega (arith, h, keeps.states))
 
-    -- A signature that was cached before the round keeps its ID when the signatures of the round are interned.
+    -- For each state, the cache has the ID of an interned signature. When the round interns more signatures, each
+    -- cached ID is still the ID of the same signature.
     same_list : (s : ℕ) → s < l.states → list_at signatures (slice_index r.cached s) ≡ list_of r.signatures r.cached s
     same_list s h = signs.grow.same (slice_index r.cached s) (within s h)
 
-    -- In the following lemmas, s is an active state, which is a state that the round processes, and the cache has the
-    -- signature of s from the last round.
+    -- In the following lemmas, s is an active state, which is a state that the round processes. Before the round, the
+    -- cached ID of s was the ID of the signature that s had in the last round.
     module _ (s : ℕ) (h : s < l.states) (one : IsMember active s)
         (was : IsListOf l (Was Branching l old s) (list_of r.signatures r.cached s)) where
-      -- The new cached ID of s equals the old cached ID if and only if the signature of s has not changed since the
-      -- last round.
+      -- For each state, the cache has the ID of a signature. Let s be an active state, which is a state that the round
+      -- processes. Then the cached ID of s is the same before and after the round if and only if the signature of s has
+      -- not changed since the last round.
       unchanged : (slice_index r.cached s ≡ slice_index cached s) ↔ IsAsBefore Branching l old of s
       unchanged =
           let told = equal_represented l _ _ (list_of signatures cached s) (list_of r.signatures r.cached s)
@@ -132,7 +138,8 @@ module _ (l : Grouped) (labelled : Labelled l) (sys : IsSystem (system_of l)) (o
           let apart = are.different (slice_index r.cached s) (slice_index cached s) in
           grind (arith, told, same_list s h, apart, within s h, signs.grow.longer, signs.each s 0, signs.states)
 
-      -- If the new signature of s is empty, then the signature of s was empty in the last round, too.
+      -- Suppose that the signature of the active state s is empty in this round. Then it was empty in the last round,
+      -- too.
       empty_still : list_of signatures cached s ≡ [] → IsAsBefore Branching l old of s
       empty_still nil a b =
           let shows : HasEmptySignature (system_of l) (slice_index of) s = λ a b can.
@@ -142,7 +149,8 @@ module _ (l : Grouped) (labelled : Labelled l) (sys : IsSystem (system_of l)) (o
           (λ can. absurd (shows a b can), λ can. absurd (empty_was l sys old of ready.split s h shows a b can))
 
       -- The split signature of a state is empty if its signature has not changed since the last round, and otherwise it
-      -- is the new signature. The list `signature_ids` has the ID of the split signature of s (`IsSplitSignature`).
+      -- is the new signature. For the active state s, the list `signature_ids` has the ID of the split signature of s
+      -- (`IsSplitSignature`).
       split_id : IsSplitSignature Branching l old of s (list_of signatures signature_ids s)
       split_id = elim (signs.changed s one) [
         | inl (is, zero) ↦ inl (ap (list_at signatures) zero ∙ are.first, unchanged.0 is)
@@ -154,7 +162,8 @@ module _ (l : Grouped) (labelled : Labelled l) (sys : IsSystem (system_of l)) (o
             ))
       ]
 
-    -- For each state that is not in a singleton block, the new cached ID is the ID of the signature of this state.
+    -- Let s be a state that is not in a singleton block (a block with one state). After the round has computed the
+    -- signatures, the cache has the ID of the present signature of s.
     cached_now : (s : ℕ) → s < l.states → IsSingleton of s ⊎ IsSignature Branching l of s (list_of signatures cached s)
     cached_now s h = grind (arith, common_steps, signs.still s, active_or_cached s h, signs.signed s, same_list s h)
 

@@ -1,5 +1,6 @@
--- Proofs about the states that a round does not process. If such a state is not in a singleton block, then none of its
--- transitions leads to a new block, which is a block that the last split has made.
+-- Proofs about the predecessor index and the states that a round does not process. A block is new if the last split has
+-- made it. For strong bisimilarity, a round with a predecessor index processes each state that is not in a singleton
+-- block and has a transition to a new block.
 use Rattle.std.proofs.Common.{rules, Bool, eqb, leb, ◌&&◌, ◌∙◌, ◌≡◌, ◌⊎◌, ℕ, ◌<◌, ◌≤◌, length, slice_index, subst}
 use Rattle.std.proofs.Common.{ap, refl, inl, inr, arith}
 use Rattle.std.proofs.Math.Logic.{⊎_map}
@@ -50,10 +51,10 @@ module _ (l : Grouped) (lts : IsLts l) (q : RoundBlocks) (size : length q.block_
         grind (arith, nat_tests)))
   ]
 
--- Let p be the data of a round before the step in which the predecessor index may be built, and let r be the data after
--- this step. Then p and r have the same blocks. If the condition `AreAllActiveOrIndexed` holds for p, it also holds for
--- r. This condition requires that there is a predecessor index of the system, or that each state is active (processed
--- by the round), is in a singleton block, or has no transition.
+-- A round has a step in which it may build the predecessor index. Let p be the data of the round before this step, and
+-- let r be the data after this step. Then p and r have the same blocks. If the condition `AreAllActiveOrIndexed` holds
+-- for p, it also holds for r. This condition holds if there is a predecessor index of the system, or if each state is
+-- active (processed by the round), is in a singleton block, or has no transition.
 pub begun : (rel : Relation) (l : Grouped) (p r : Signed) → AreAllActiveOrIndexed p.index_state rel l p.blocks
     → MayBuildIndex l (reach_of rel) p r
     → (r.blocks ≡ p.blocks) × AreAllActiveOrIndexed r.index_state rel l r.blocks

@@ -1,4 +1,4 @@
--- Lemmas which show that the list `signature_ids` has the ID of an interned signature for each state
+-- Lemmas about the list `signature_ids`. They show that this list has the ID of an interned signature for each state
 -- (`HaveSignatures`).
 use Rattle.std.proofs.Common.{rules, ◌≡◌, ◌⊎◌, inl, inr, ℕ, ◌<◌, ◌≤◌, List, ◌++◌, length, take, slice_index}
 use Rattle.std.proofs.lemmas.List.{get_or_default, take_at}
@@ -10,24 +10,25 @@ use Rattle.refine_core.specs.declared.signed_blocks.IndexState.{IndexState}
 use Rattle.refine_core.specs.declared.signed_blocks.IndexState.TheVariants.{Searched, Pending}
 use Rattle.partition.specs.Splitting.{Splits}
 
--- Suppose that `signature_ids` has the ID of an interned signature for each of n states. If further elements are
--- appended to this list, then its first n elements are still these IDs.
+-- Suppose that the list `signature_ids` has the ID of an interned signature for each of the n states, and that further
+-- elements are appended to this list. Then the first n elements of the longer list are the IDs of interned signatures,
+-- one for each state.
 pub written_back : (of active : List ℕ) (signatures : List (List (ℕ × ℕ))) (signature_ids rest : List ℕ) (n : ℕ)
     → AreIds signatures signature_ids → InactiveHaveNone active signature_ids
     → length signature_ids ≡ length of → length signature_ids ≡ n
     → HaveSignatures of active signatures (take n (signature_ids ++ rest))
 written_back of active signatures signature_ids rest n each none states all = search (rules, take_at)
 
--- If `signature_ids` has the ID 0 for each state, then it has the ID of an interned signature (the empty signature) for
--- each state.
+-- Suppose that the list `signature_ids` has the ID 0 for each state, and that at least one signature is interned. Then
+-- this list has the ID of an interned signature for each state, because the empty signature has the ID 0.
 pub emptied : {of active signature_ids : List ℕ} {signatures : List (List (ℕ × ℕ))} {n : ℕ} → 1 ≤ length signatures
     → ((s : ℕ) → s < n → slice_index signature_ids s ≡ 0) → length signature_ids ≡ n → n ≡ length of
     → HaveSignatures of active signatures signature_ids
 emptied {signature_ids = signature_ids} {signatures = signatures} some empty same states
     = search (rules, get_or_default)
 
--- If blocks are split by the IDs of interned signatures, the result is the same as for a split by these signatures,
--- because different IDs belong to different signatures.
+-- Different interned signatures have different IDs. Suppose that blocks are split by the IDs of the signatures of their
+-- states. Then the result is the same as for a split by these signatures.
 pub Splits-signatures : (signatures : List (List (ℕ × ℕ))) (signature_ids old : List ℕ) (count : ℕ) (new : List ℕ)
     (more : ℕ)
     → AreLists signatures → AreIds signatures signature_ids → length old ≡ length signature_ids
@@ -36,7 +37,8 @@ pub Splits-signatures : (signatures : List (List (ℕ × ℕ))) (signature_ids o
 Splits-signatures signatures signature_ids old count new more are each size splits = search rules
 
 -- The active states are the states that the round processes. Suppose that some states are dropped from the active
--- states and get the ID of the empty signature. Then each state still has the ID of an interned signature.
+-- states, and that these states get the ID of the empty signature. Then the list `signature_ids` still has the ID of an
+-- interned signature for each state.
 pub ids_after_drop : {of active active' : List ℕ} {signatures : List (List (ℕ × ℕ))} {old new : List ℕ}
     → 1 ≤ length signatures
     → HaveSignatures of active signatures old
@@ -44,16 +46,17 @@ pub ids_after_drop : {of active active' : List ℕ} {signatures : List (List (�
     → HaveSignatures of active' signatures new
 ids_after_drop {signatures = signatures} {new = new} some have size each none = search (rules, get_or_default)
 
--- If there is a predecessor index, and `FitsIndexState` holds for n, then the index was built for a system with n
--- states.
+-- Suppose that there is a predecessor index, and that the condition `FitsIndexState` holds for n. Then the index has a
+-- range of entries for each of n states.
 pub fits_either : (n : ℕ) (index_state : IndexState) (e : SearchIndex) → (index_state ≡ Searched e)
     ⊎ (index_state ≡ Pending e) → FitsIndexState n index_state
     → length e.index.all ≡ n
 fits_either n index_state e (inl is) fits = rw is at fits
 fits_either n index_state e (inr is) fits = rw is at fits
 
--- A split changes neither the signature ID of a state nor the number of states. So, after a split, each state still has
--- the ID of an interned signature, and the predecessor index still fits the number of states (`FitsIndexState`).
+-- A split changes neither the signature ID of a state nor the number of states. Suppose that, before a split, each
+-- state has the ID of an interned signature, and the predecessor index fits the number of states (`FitsIndexState`).
+-- Then both are still true after the split.
 pub split_fits : (signatures : List (List (ℕ × ℕ))) (signature_ids ns : List ℕ) (p q : RoundBlocks)
     (index_state : IndexState)
     → AreSplitBlocks p ns q → HaveSignatures p.block_ids p.active signatures signature_ids

@@ -11,17 +11,18 @@ use Rattle.partition.specs.Splitting.{IsSingleton}
 use Rattle.refine_core.specs.Signatures.{list_of}
 use Rattle.refine_core.specs.Shown.{Was}
 
--- `IsListOf` holds if `list` represents the set of the pairs (label, block) for which the predicate `has` holds. The
--- list must contain the pair (k, b) if and only if k is a label ID, and `has` holds for the label with the ID k and the
--- block b. The pairs of the list must be in strictly ascending order.
+-- `IsListOf` holds under two conditions. First, the pairs of `list` are in strictly ascending order. Second, for all
+-- numbers k and b, `list` contains the pair (k, b) if and only if k is the ID of a label a for which `has a b` holds.
+-- Here `has` is a predicate that describes a set of pairs of a label and a block.
 abbrev pub IsListOf : Grouped → (List ℕ → ℕ → Type 0) → List (ℕ × ℕ) → Type 0
 IsListOf l has list = IsStrictlySortedBy pair_cmp list
     × ((k b : ℕ) → Contains list (k, b) ↔ ((k < length l.labels) × has (text_of l.labels k) b))
 
--- `CachesIds` holds if `cached` has the ID of an interned signature for each state. For each state that is not in a
--- singleton block, this signature must be the branching signature that the state had in the last round. The list `old`
--- has the block IDs in the last round, and the list `of` has the block IDs in this round. If `old` is `None`, no round
--- has run yet, and the signature of the last round is taken to be empty.
+-- `CachesIds` holds under two conditions. First, the list `cached` has the ID of an interned signature for each state.
+-- Second, for each state that is not in a singleton block (a block with one state), this signature is the branching
+-- signature that the state had in the last round. The list `old` has the block IDs in the last round, and the list `of`
+-- has the block IDs in this round. If `old` is `None`, each state is taken to have had the empty signature in the last
+-- round.
 pub record CachesIds (l : Grouped) (of : List ℕ) (signatures : List (List (ℕ × ℕ))) (cached : List ℕ)
     (old : Option (List ℕ)) : Type 0 where
   pub states : length cached ≡ l.states

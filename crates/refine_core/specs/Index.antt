@@ -1,6 +1,7 @@
--- Definitions for the search that goes backwards along transitions: which states the search has to find, and what holds
--- while the search is in progress. The search looks up transitions in the predecessor index, which has, for each state,
--- the transitions that lead to this state. The place of a transition is its index in the list of all transitions.
+-- After the predecessor index was built, a round begins with a search for the states that it has to process. The search
+-- goes backwards along transitions. It looks up these transitions in the predecessor index, which has, for each state,
+-- the transitions that lead to this state. This file defines which states the search has to find, and what holds while
+-- the search is in progress. The place of a transition is its index in the list of all transitions.
 use Rattle.std.specs.Prelude.{◌≡◌, ◌⊎◌, ℕ, ◌+◌, ◌<◌, ◌≤◌, ◌==◌, Bool, true, false, IsTrue, List, length}
 use Rattle.std.specs.Prelude.{slice_index, slice_index_or, Option, None, Some, IfSome}
 use Rattle.std.specs.List.{All, IsDistinct}
@@ -25,107 +26,117 @@ pub record SearchIndex : Type 0 where
   pub index : Entries
   pub reach : Reach
 
--- Returns true if the search goes back along inert transitions. In this case, the predecessor index stores the internal
+-- Returns true if a search goes back along inert transitions. In this case, the predecessor index stores the internal
 -- transitions to each state separately, as the internal group of the state.
 abbrev pub is_separate : Reach → Bool
 is_separate Before = false
 is_separate Back = true
 
--- Returns how far the search goes back along transitions. For strong bisimilarity, the search stops at the sources of
+-- Returns how far a search goes back along transitions. For strong bisimilarity, the search finds only the sources of
 -- the transitions into new blocks, which are the blocks that the last split has made. For branching bisimilarity, the
 -- search also goes back along inert transitions.
 abbrev pub reach_of : Relation → Reach
 reach_of Strong = Before
 reach_of Branching = Back
 
--- `IsInner` holds for the transition at the place (index) p if its source and its target are in the same block, and if
--- the search goes back along inert transitions.
+-- `IsInner` holds for the transition at the place p, which is an index in the list of all transitions, under two
+-- conditions. First, the source and the target of the transition are in the same block. Second, a search goes back
+-- along inert transitions (`reach` is `Back`).
 abbrev pub IsInner : Reach → Grouped → List ℕ → ℕ → Type 0
 IsInner reach l of p = (reach ≡ Back)
     × (slice_index of (source_of (place_at l.places p)) ≡ slice_index of (target_of (place_at l.places p)))
 
--- `IsSearchIndex` holds if `e` has a predecessor index of the system `l`. If the search goes back along inert
--- transitions, the index must store all inert transitions to each state separately, as the internal group of the state.
--- The internal group may also have internal transitions that are not inert.
+-- `IsSearchIndex` holds if `e` has a predecessor index of the system `l`, which has, for each state, the transitions
+-- that lead to this state. If a search in this index goes back along inert transitions, the index must store the inert
+-- transitions to each state separately, as the internal group of the state. The internal group may also have internal
+-- transitions that are not inert.
 abbrev pub IsSearchIndex : Grouped → List ℕ → SearchIndex → Type 0
 IsSearchIndex l of e = IsIndex l (IsInner e.reach l of) e.index
 
 -- `HasIndex` holds under three conditions. First, the list `of` has the block ID of each state of the system `l`.
--- Second, `e` contains a predecessor index of this system (`IsSearchIndex`). Third, a search in this index goes back
--- along transitions as far as the argument `reach` states.
+-- Second, `e` contains a predecessor index of this system (`IsSearchIndex`). Third, the field `reach` of `e` is equal
+-- to the argument `reach`, which says how far a search in this index goes back along transitions.
 pub record HasIndex (reach : Reach) (l : Grouped) (of : List ℕ) (e : SearchIndex) : Type 0 where
   pub states : length of ≡ l.states
   pub index : IsSearchIndex l of e
   pub reach_is : e.reach ≡ reach
 
--- `IsFoundOrSingleton` holds if the search has found the state s, or if s is in a singleton block.
+-- `IsFoundOrSingleton` holds if the state s is in the list `found` of the states that a search has found, or if s is in
+-- a singleton block (a block with one state).
 abbrev pub IsFoundOrSingleton : List ℕ → List ℕ → ℕ → Type 0
 IsFoundOrSingleton of found s = IsMember found s ⊎ IsSingleton of s
 
--- `IsAsked` holds for the transition at the place (index) p if the search has to find its source. The argument `block`
--- is `None` or a block. For `None`, the search has to find each source. For a block, it has to find the sources of
--- internal transitions, if these sources are in this block.
+-- `IsAsked` holds if a search has to find the source of the transition at the place p, which is an index in the list of
+-- all transitions. The argument `block` is `None` or a block ID. For `None`, the search has to find the source of every
+-- transition. For a block ID, the search has to find the source only if the transition is internal and its source is in
+-- this block.
 abbrev pub IsAsked : Option ℕ → Grouped → List ℕ → ℕ → Type 0
 IsAsked block l of p = IfSome block (λ b. text_of l.labels (label_of (place_at l.places p)) ≡ internal)
     × IfSome block (λ b. slice_index of (source_of (place_at l.places p)) ≡ b)
 
--- The search has to find the sources of certain transitions to the state t (`IsAsked`). `FindsSources` holds if the
--- search has found all of these sources, except that sources in singleton blocks need not be found. The argument
--- `block` is `None` or a block. An inert transition is an internal transition that does not leave its block. If `block`
--- is the block of t, the sources that the search has to find are the sources of the inert transitions to t.
+-- `FindsSources` holds if a search has found the sources of certain transitions to the state t. The argument `block` is
+-- `None` or a block ID, and determines which transitions these are (`IsAsked`). For `None`, they are all transitions to
+-- t. For a block ID, they are the internal transitions to t whose sources are in this block. So if `block` is the ID of
+-- the block of t, they are the inert transitions to t. Sources in singleton blocks (blocks with one state) need not be
+-- found.
 abbrev pub FindsSources : Option ℕ → Grouped → List ℕ → List ℕ → ℕ → Type 0
 FindsSources block l of found t = (p : ℕ) → p < length l.places → target_of (place_at l.places p) ≡ t
     → IsAsked block l of p → IsFoundOrSingleton of found (source_of (place_at l.places p))
 
--- `FindsNew` is the condition on a state t of a new block, which is a block that the last split has made. It holds if
--- the search has found the sources of all transitions to t. If the search goes back along inert transitions, the search
--- must also have found t itself. States in singleton blocks need not be found.
+-- `FindsNew` holds if a search has found all states that it has to find for the state t of a new block. A new block is
+-- a block that the last split has made. The search has to find the sources of all transitions to t. If the search goes
+-- back along inert transitions (`reach` is `Back`), it has to find t itself, too. States in singleton blocks (blocks
+-- with one state) need not be found.
 abbrev pub FindsNew : Reach → Grouped → List ℕ → List ℕ → ℕ → Type 0
 FindsNew reach l of found t = FindsSources None l of found t × (reach ≡ Back → IsFoundOrSingleton of found t)
 
--- `SearchIsComplete` holds if the search has found all states that it has to find. A block is new if the last split has
--- made it, and otherwise it is old. For each state t of a new block, the search must have found the states that
--- `FindsNew` requires, such as the sources of the transitions to t. If the search goes back along inert transitions, it
--- must also have found the sources of the inert transitions to each found state of an old block.
+-- `SearchIsComplete` holds if a search has found all states that it has to find, and these states are in the list
+-- `found`. A block is new if the last split has made it, and otherwise it is old. For each state t of a new block, the
+-- search has to find the sources of all transitions to t. If `reach` is `Back`, the search has to find more states:
+-- each state of a new block, and, for each found state t of an old block, the sources of the inert transitions to t.
+-- States in singleton blocks (blocks with one state) need not be found.
 pub record SearchIsComplete (reach : Reach) (l : Grouped) (p : RoundBlocks) (found : List ℕ) : Type 0 where
   pub new : (t : ℕ) → t < length p.block_ids → p.first_new ≤ slice_index p.block_ids t
       → FindsNew reach l p.block_ids found t
   pub back : reach ≡ Back → (t : ℕ) → IsMember found t → slice_index p.block_ids t < p.first_new
       → FindsSources (Some (slice_index p.block_ids t)) l p.block_ids found t
 
--- `AreFound` holds if the list `found` has the states that a complete search has found (`SearchIsComplete`), in
--- strictly ascending order.
+-- `AreFound` holds under two conditions. First, the list `found` contains all states that a search has to find
+-- (`SearchIsComplete`). Second, the states in this list are in strictly ascending order.
 pub record AreFound (reach : Reach) (l : Grouped) (p : RoundBlocks) (found : List ℕ) : Type 0 where
   pub ascending : AreActive l.states found
   pub complete : SearchIsComplete reach l p found
 
--- Returns, for each state, the range of the entries that the search looks up in the predecessor index `x`. The first
--- argument is `None` or a block. For `None`, the range has the entries of all transitions to the state. For a block,
--- whichever block it is, the range has only the internal group of the state: the entries of internal transitions to the
--- state that the index stores next to each other.
+-- Returns, for each state, a range of entries of the predecessor index `x`. Each entry in the range of a state belongs
+-- to a transition to this state. If the first argument is `None`, the range of a state has the entries of all
+-- transitions to the state. If the first argument is a block ID, the range has only the internal group of the state,
+-- which has the entries of internal transitions to the state. This range is the same for all block IDs.
 abbrev pub ranges_of : Option ℕ → Entries → List (ℕ × ℕ)
 ranges_of None x = x.all
 ranges_of (Some b) x = x.internal
 
--- `IsNotLookedUp` holds if no transition to the state t was visited. A visit is a counted read of a transition, and
--- `visited` has the places (indices) of the visited transitions.
+-- `IsNotLookedUp` holds if no transition whose place is in the list `visited` leads to the state t. This list has the
+-- places of the transitions that were visited (read and counted) in this round. The place of a transition is its index
+-- in the list of all transitions.
 abbrev pub IsNotLookedUp : List Triple → List ℕ → ℕ → Type 0
 IsNotLookedUp places visited t = All (λ k. ¬ (target_of (place_at places k) ≡ t)) visited
 
--- `HasLookedUp` is about the step of the search for the state t. The step has to find the sources of certain
--- transitions to t, and must have found these sources (`FindsSources`). It must have kept all states that were found
--- before, and must not have looked up transitions to any other state. Before the step, the search had found the states
--- in `before`, and had visited the places (indices of transitions) in `old`. After the step, the search has found the
--- states in `found`, and has visited the places in `visited`.
+-- `HasLookedUp` is about the step of a search that looks up transitions to the state t. It holds under three
+-- conditions. First, the step has found the sources that the search has to find for t (`FindsSources`). Second, the
+-- states that were found before the step are still found states, in the same order. Third, if no transition to another
+-- state was visited (read and counted) before the step, then no transition to this other state was visited during the
+-- step. The list of the found states is `before` before the step, and `found` after the step. The list of the places
+-- (indices) of the visited transitions is `old` before the step, and `visited` after the step.
 pub record HasLookedUp (block : Option ℕ) (l : Grouped) (of : List ℕ) (t : ℕ) (before found old visited : List ℕ) :
     Type 0 where
   pub more : StartsWith found before
   pub sources : FindsSources block l of found t
   pub others : (s : ℕ) → ¬ (s ≡ t) → IsNotLookedUp l.places old s → IsNotLookedUp l.places visited s
 
--- `HasVisited` is about visits (counted reads) of transitions, and `visited` has the places (indices) of the visited
--- transitions. It holds if the meter has counted one visit for each place in `visited`, and no round. No place may be
--- in `visited` twice. The meter had the counts `old` before these visits, and has the counts `new` after them.
+-- `HasVisited` holds under three conditions. First, the list `visited` has places of transitions, and has no place
+-- twice. The place of a transition is its index in the list of all transitions. Second, the meter has counted one visit
+-- (read of a transition) for each place in `visited`. Third, the meter has counted no round. The meter had the counts
+-- `old` before these visits, and has the counts `new` after them.
 pub record HasVisited (places : List Triple) (old new : Counts) (visited : List ℕ) : Type 0 where
   pub are : AreVisited places visited
   pub rounds : new.rounds ≡ old.rounds
@@ -135,22 +146,25 @@ pub record HasVisited (places : List Triple) (old new : Counts) (visited : List 
 abbrev pub IsUnmarked : List Bool → Type 0
 IsUnmarked marks = (s : ℕ) → ¬ IsTrue (slice_index_or marks s false)
 
--- `AreMarked` holds if the marked states are exactly the states in `found`, and no state is in `found` twice. The state
--- s is marked if the element of `marks` at the index s is true.
+-- `AreMarked` holds under two conditions. First, the marked states are exactly the states in the list `found`. The
+-- state s is marked if the element of the list `marks` at the index s is true. Second, no state is in `found` twice.
 pub record AreMarked (marks : List Bool) (found : List ℕ) : Type 0 where
   pub each : All (λ s. IsTrue (slice_index_or marks s false)) found
   pub all : (s : ℕ) → IsTrue (slice_index_or marks s false) → IsMember found s
   pub once : IsDistinct (λ s t. s == t) found
 
--- The number of states is `states`. `MarksFound` holds if the list of marks has an entry for each state, and if the
--- marked states are exactly the states that the search has found so far.
+-- `MarksFound` holds under two conditions. First, the list of marks in the record `at` has one entry for each of the
+-- `states` states of the system. Second, the marked states are exactly the found states in `at`, and no state is twice
+-- in the list of found states (`AreMarked`).
 pub record MarksFound (states : ℕ) (at : Affected) : Type 0 where
   pub size : length at.marks.items ≡ states
   pub marked : AreMarked at.marks.items at.states.items
 
--- `SearchIsOn` holds while a search is in progress. The meter had the counts `start` when the search began, and now has
--- the counts `now`. The record `at` has the predecessor index, the marks of the states, and the states that were found
--- so far. The list `xs` has the places (indices) of the transitions that were visited so far.
+-- `SearchIsOn` holds while a search is in progress. The record `at` has the predecessor index, the marks of the states,
+-- and the states that were found so far. The predecessor index must be correct (`IsSearchIndex`), and exactly the found
+-- states must be marked. The list `xs` must have the places (indices) of the transitions that were visited so far. For
+-- each of them, the meter must have counted one visit (read of a transition). The record `start` has the counts of the
+-- meter when the search began, and `now` has its present counts.
 pub record SearchIsOn (l : Grouped) (of : List ℕ) (reach : Reach) (start now : Counts) (at : Affected) (xs : List ℕ) :
     Type 0 where
   pub blocks : length of ≡ l.states
@@ -159,8 +173,9 @@ pub record SearchIsOn (l : Grouped) (of : List ℕ) (reach : Reach) (start now :
   pub visited : HasVisited l.places start now xs
   pub room : HasRoomFor start 0 (length l.places)
 
--- `ReadsRows` holds if `of` has a block ID for each state, and if `visited` has the places (indices) of transitions
--- that were visited in this round (`AreVisited`). A round needs both facts in order to read the transitions of a state.
+-- `ReadsRows` holds under two conditions. First, the list `of` has a block ID for each state. Second, the list
+-- `visited` has places (indices) of transitions, and has no place twice (`AreVisited`). The functions that read the
+-- transitions of a state require both conditions.
 pub record ReadsRows (l : Grouped) (of visited : List ℕ) : Type 0 where
   pub states : length of ≡ l.states
   pub are : AreVisited l.places visited

@@ -11,9 +11,9 @@ use Rattle.partition.specs.Renumberings.{WereHalved, renumberings}
 use Rattle.refine_core.specs.Signatures.{Signed}
 use Rattle.refine_core.specs.IndexState.{Awaits}
 
--- `IsNextRound` holds if q is the data after one round that started with the blocks `of`. The blocks of q must be the
--- result of splitting the blocks `of` by signatures (`Split`). There were `count` blocks before the round, so a block
--- of q is new if its ID is at least `count`. The next round must be able to begin with the data q (`Awaits`).
+-- `IsNextRound` holds if q is the data after one round that started with the block IDs `of`. The blocks of q must
+-- result from splitting the blocks of `of` by signatures (`Split`). There were `count` blocks before the round, so a
+-- block of q is new if its ID is at least `count`. The data q must be ready for the next round (`Awaits`).
 pub record IsNextRound (rel : Relation) (l : Grouped) (of : List ℕ) (count : ℕ) (q : Signed) : Type 0 where
   pub split : Split rel (system_of l) (slice_index of) (slice_index q.blocks.block_ids)
   pub blocks : AreBlocks q.blocks.block_ids q.blocks.count
@@ -25,15 +25,16 @@ pub record IsNextRound (rel : Relation) (l : Grouped) (of : List ℕ) (count : �
       slice_index q.blocks.block_ids s ≡ slice_index of s
   pub same : (q.blocks.count ≡ count) ↔ SameBlocks (system_of l) (slice_index of) (slice_index q.blocks.block_ids)
 
--- `AreRounds` holds if a sequence of splits leads from the partition with only one block to the partition `now`. The
--- list `past` has the partition before each split, and its first element is the partition before the last split.
+-- `AreRounds` holds if a sequence of splits leads from the partition that has only one block to the partition `now`.
+-- The list `past` has the partition before each split. The first element of this list is the partition before the last
+-- split.
 abbrev pub AreRounds : Relation → System → List ℕ → List (List ℕ) → Type 0
 AreRounds rel A now [] = OneBlock A (slice_index now)
 AreRounds rel A now (old ∷ past) = Split rel A (slice_index old) (slice_index now) × AreRounds rel A old past
 
--- `RenumbersFew` holds if there is a sequence of splits that starts with only one block and ends with the partition
--- `blocks`. The last partition of the sequence may have other block IDs than `blocks`. During the sequence, the block
--- ID of each state must change at most log2 n times, where n is the number of states.
+-- `RenumbersFew` holds if there is a sequence of splits with two properties. First, it leads from the partition that
+-- has only one block to a partition with the same blocks as `blocks`, but possibly with other block IDs. Second, the
+-- block ID of each state changes at most log2 n times during the sequence, where n is the number of states.
 pub record RenumbersFew (rel : Relation) (A : System) (blocks : List ℕ) : Type 0 where
   pub last : List ℕ
   pub past : List (List ℕ)
@@ -41,10 +42,11 @@ pub record RenumbersFew (rel : Relation) (A : System) (blocks : List ℕ) : Type
   pub same : SameBlocks A (slice_index last) (slice_index blocks)
   pub few : (s : ℕ) → s < A.states → 2 ^ renumberings last past s ≤ A.states
 
--- `Made` holds if some rounds, which started with only one block, have led to the partition `blocks`. Each of these
--- rounds must have split at least one block, and there must be fewer rounds than states. In each round, the number of
--- visits (counted reads of transitions) must equal the number of transitions. The meter had the counts `old` before the
--- first round, and has the counts `at` after the last round.
+-- `Made` holds if a sequence of rounds has led from the partition that has only one block to the partition `blocks`.
+-- Each of these rounds must have split at least one block, and there must be fewer rounds than states. A visit is a
+-- counted read of a transition. The number of visits in all these rounds must be the number of the rounds times the
+-- number of transitions. The meter had the counts `old` before the first round, and has the counts `at` after the last
+-- round.
 pub record Made (rel : Relation) (l : Grouped) (old at : Counts) (blocks : List ℕ) : Type 0 where
   pub rounds : ℕ
   pub fewer : rounds < l.states

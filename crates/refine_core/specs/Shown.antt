@@ -1,7 +1,7 @@
--- This file defines the split signature of a state, which is the list of pairs by which a split separates the state
--- from other states of its block. The split signature of a state is empty if its signature has not changed since the
--- last round, and otherwise it is the new signature. This file also defines how the blocks of this round result from
--- the blocks of the last round.
+-- This file defines the split signature of a state: the signature by which a split separates the state from other
+-- states of its block. The split signature of a state is empty if its signature has not changed since the last round,
+-- and otherwise it is the new signature. This file also defines how the blocks of this round result from the blocks of
+-- the last round.
 use Rattle.std.specs.Prelude.{◌≡◌, ◌⊎◌, ◌↔◌, ℕ, ◌<◌, ◌≤◌, List, [], slice_index, Option, None, Some}
 use Rattle.std.specs.List.{Contains}
 use Rattle.theory.specs.declared.relation.Relation.{Relation}
@@ -11,41 +11,43 @@ use Rattle.theory.specs.Unaffected.{KeepsBlockIds}
 use Rattle.lts.specs.Lts.{Grouped, system_of}
 use Rattle.inert.specs.Signed.{IsSignature}
 
--- `Was` holds if the signature of the state s in the last round contained the pair (a, b). The list `old` has the block
--- IDs in the last round. If `old` is `None`, no round has run yet, or all signatures have been discarded since the last
--- round. The signature of the last round is then taken to be empty.
+-- `Was` holds if the signature of the state s in the last round contained the pair (a, b) of a label and a block. The
+-- argument `old` has the block IDs in the last round. If `old` is `None`, no round has run yet, or all signatures have
+-- been discarded since the last round. In this case, the signature in the last round is taken to be empty, and `Was`
+-- does not hold.
 abbrev pub Was : Relation → Grouped → Option (List ℕ) → ℕ → List ℕ → ℕ → Type 0
 Was rel l None s a b = ⊥
 Was rel l (Some old) s a b = Signature rel (system_of l) (slice_index old) s a b
 
--- `IsAsBefore` holds if the signature of the state s is the same as in the last round.
+-- `IsAsBefore` holds if the signature of the state s is the same as in the last round (`Was`). The list `of` has the
+-- block IDs in this round, and the argument `old` has the block IDs in the last round.
 abbrev pub IsAsBefore : Relation → Grouped → Option (List ℕ) → List ℕ → ℕ → Type 0
 IsAsBefore rel l old of s =
     (a : List ℕ) (b : ℕ) → Signature rel (system_of l) (slice_index of) s a b ↔ Was rel l old s a b
 
--- `IsSplitSignature` holds if `list` is the split signature of the state s, which is the list of pairs by which a split
--- separates s from other states of its block. If the signature of s is the same as in the last round, this list must be
--- empty. Otherwise, the list must be the new signature of s, and must not be empty.
+-- `IsSplitSignature` holds if `list` is the split signature of the state s, by which a split separates s from other
+-- states of its block. If the signature of s is the same as in the last round, `list` must be empty. Otherwise, `list`
+-- must be the new signature of s, and must not be empty.
 abbrev pub IsSplitSignature : Relation → Grouped → Option (List ℕ) → List ℕ → ℕ → List (ℕ × ℕ) → Type 0
 IsSplitSignature rel l old of s list = ((list ≡ []) × IsAsBefore rel l old of s)
     ⊎ (¬ (list ≡ []) × ¬ IsAsBefore rel l old of s × IsSignature rel l of s list)
 
--- `IsLastSplit` holds if the blocks `of` result from splitting the blocks `old` by signatures (`Split`). The block IDs
--- in `old` must be less than `first_new`. If the block ID of a state is less than `first_new` after the split, the
--- split must not have changed this block ID.
+-- `IsLastSplit` holds under three conditions. First, the blocks `of` result from splitting the blocks `old` by
+-- signatures (`Split`). Second, each block ID in `old` is less than `first_new`. Third, if the block ID of a state in
+-- `of` is less than `first_new`, then the state has the same block ID in `old`.
 pub record IsLastSplit (rel : Relation) (l : Grouped) (old of : List ℕ) (first_new : ℕ) : Type 0 where
   pub split : Split rel (system_of l) (slice_index old) (slice_index of)
   pub below : (s : ℕ) → s < l.states → slice_index old s < first_new
   pub stays : KeepsBlockIds (system_of l) (slice_index old) (slice_index of) first_new
 
 -- `Follows` holds if the blocks `of` result from splitting the blocks `old` of the last round (`IsLastSplit`). If `old`
--- is `None`, no round has run yet, and `first_new` must be 0, so that all blocks count as new.
+-- is `None`, no round has run yet. In this case, `first_new` must be 0, so that all blocks count as new.
 abbrev pub Follows : Relation → Grouped → Option (List ℕ) → List ℕ → ℕ → Type 0
 Follows rel l None of first_new = first_new ≡ 0
 Follows rel l (Some old) of first_new = IsLastSplit rel l old of first_new
 
 -- `WasSplit` holds if the blocks `of` result from splitting the blocks `old` of the last round by signatures (`Split`).
--- If `old` is `None`, no round has run yet, and `WasSplit` holds for all blocks `of`.
+-- If `old` is `None`, there is no last round, and `WasSplit` holds for any blocks `of`.
 abbrev pub WasSplit : Relation → Grouped → Option (List ℕ) → List ℕ → Type 0
 WasSplit rel l None of = Unit {0}
 WasSplit rel l (Some old) of = Split rel (system_of l) (slice_index old) (slice_index of)
@@ -55,10 +57,10 @@ WasSplit rel l (Some old) of = Split rel (system_of l) (slice_index old) (slice_
 abbrev pub HasNewBlock : ℕ → List (ℕ × ℕ) → Type 0
 HasNewBlock first_new pairs = (z : ℕ × ℕ) × Contains pairs z × (first_new ≤ z.1)
 
--- `IsStrongSplitSignature` holds if `list` is the split signature of the state s for strong bisimilarity: the empty
--- list if the signature of s has not changed since the last round, and otherwise the new signature. The blocks `old` of
--- the last round are not an argument. So `list` must be the split signature for each partition `old` from which the
--- last split can have made the blocks `of`.
+-- `IsStrongSplitSignature` holds if `list` is the split signature of the state s for strong bisimilarity
+-- (`IsSplitSignature`). This means that `list` is empty if the signature of s has not changed since the last round, and
+-- otherwise is the new signature of s. The definition has no argument for the blocks of the last round. So `list` must
+-- be the split signature for all blocks of the last round from which a split can have made the blocks `of` (`Follows`).
 abbrev pub IsStrongSplitSignature : Grouped → List ℕ → ℕ → ℕ → List (ℕ × ℕ) → Type 0
 IsStrongSplitSignature l of first_new s list = (old : Option (List ℕ)) → Follows Strong l old of first_new
     → IsSplitSignature Strong l old of s list

@@ -6,15 +6,17 @@ use Rattle.partition.specs.Blocks.{RoundBlocks, InactiveHaveNone}
 use Rattle.refine_core.specs.declared.signed_blocks.IndexState.{IndexState}
 use Rattle.refine_core.specs.declared.signed_blocks.IndexState.TheVariants.{Absent, Searched, Pending}
 
--- Returns the signature of the state s. The list `signature_ids` has the ID of a signature for each state.
+-- Returns the signature of the state s. The list `signature_ids` has the ID of this signature at the index s, and the
+-- list `signatures` has the signatures in the order of their IDs.
 abbrev pub list_of : List (List (ℕ × ℕ)) → List ℕ → ℕ → List (ℕ × ℕ)
 list_of signatures signature_ids s = list_at signatures (slice_index signature_ids s)
 
--- `Signed` is the data of a round: the blocks, the signatures, the predecessor index, and the visited transitions. For
--- each state, `signature_ids` has the ID of the signature by which the split separates the state from other states of
--- its block (the split signature). For each state, `cached` has the ID of the signature that is cached from round to
--- round. The list `signatures` has the signatures in the order of their IDs. The list `visited` has the places
--- (indices) of the transitions that were visited (read and counted) in this round.
+-- `Signed` is the data of a round: the blocks, the signatures, the predecessor index, and the visited transitions. The
+-- list `signatures` has the signatures in the order of their IDs. For each state, `signature_ids` has the ID of the
+-- signature by which the split separates the state from other states of its block (the split signature). For each
+-- state, `cached` has the ID of the signature that is cached from round to round. The list `visited` has the places of
+-- the transitions that were visited (read and counted) in this round. The place of a transition is its index in the
+-- list of all transitions.
 pub record Signed : Type 0 where
   pub blocks : RoundBlocks
   pub signatures : List (List (ℕ × ℕ))
@@ -23,8 +25,8 @@ pub record Signed : Type 0 where
   pub index_state : IndexState
   pub visited : List ℕ
 
--- `HaveSignatures` holds if, for each state, `signature_ids` has the ID of an interned signature. If a state is not
--- active (not processed by the round), this ID must be the ID of the empty signature.
+-- `HaveSignatures` holds if the list `signature_ids` has the ID of an interned signature for each state. For each state
+-- that is not active (not processed by the round), this must be the ID of the empty signature.
 pub record HaveSignatures (of active : List ℕ) (signatures : List (List (ℕ × ℕ))) (signature_ids : List ℕ) : Type 0
   where
     pub each : AreIds signatures signature_ids
@@ -37,8 +39,9 @@ FitsIndexState n Absent = Unit {0}
 FitsIndexState n (Searched e) = length e.index.all ≡ n
 FitsIndexState n (Pending e) = length e.index.all ≡ n
 
--- `HasNoSignatures` holds if only the empty signature is interned, and the cached ID of each state is the ID of the
--- empty signature. The list `of` has the block ID of each state.
+-- `HasNoSignatures` holds under two conditions. First, the list `signatures` of the interned signatures has only the
+-- empty signature. Second, the list `cached` has the ID of the empty signature for each state. The list `of` has the
+-- block ID of each state.
 pub record HasNoSignatures (of : List ℕ) (signatures : List (List (ℕ × ℕ))) (cached : List ℕ) : Type 0 where
   pub only : signatures ≡ [] ∷ []
   pub states : length cached ≡ length of

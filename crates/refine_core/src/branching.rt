@@ -1,6 +1,6 @@
 //! Rounds of refinement for branching bisimilarity. A transition is inert if it is internal and does not leave its
-//! block. The signature of a state s has the pairs (label, target block) of all transitions that are not inert and
-//! whose source is s or can be reached from s by inert transitions.
+//! block. Let s be a state, and consider the states that s reaches by inert transitions, including s itself. The
+//! signature of s has the pair (label, target block) of each transition of these states that is not inert.
 ghost use Rattle.theory.specs.declared.relation.Relation.TheVariants.{Branching as branching};
 
 use crate::predecessors::Reach;

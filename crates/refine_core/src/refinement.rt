@@ -17,8 +17,8 @@ use std::alloc::Global;
 
 /// Starts with one block that contains all states, and splits blocks in each round until two states share a block if
 /// and only if they are bisimilar. Returns these blocks. The last round is the first round that splits no block. The
-/// meter counts this last round, too. In each round, the number of visits (counted reads of transitions) equals the
-/// number of transitions.
+/// meter counts the last round as one of the rounds. In each round, the number of visits (counted reads of transitions)
+/// equals the number of transitions.
 ///
 /// The blocks result from a sequence of splits in which the block ID of each state changes at most log2 n times, where
 /// n is the number of states. If the call fails, the meter has counted at most n rounds, and the number of visits is at
@@ -90,8 +90,8 @@ pub fn refine<S: Signing, M: Meter>(
     renumber(alloc, blocks.block_ids(), blocks.count())
 }
 
-/// Returns the states that have a transition, in ascending order. The header of a system can declare many states
-/// without a transition, and rounds need not process these states.
+/// Returns the states that have an outgoing transition, in ascending order. The header of an `.aut` file can declare
+/// many states without an outgoing transition, and rounds need not process these states.
 fn with_rows<M: Meter>(alloc: Global, l: &Lts<M>) -> Result<Vec<u32>, Memory>
     ensures ascending { IfOk result (λ v. AreActive l.now.states v.items) }
     ensures rows { IfOk result

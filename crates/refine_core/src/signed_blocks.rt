@@ -21,32 +21,33 @@ use std::alloc::Global;
 use std::marker::Model;
 
 /// A block is new if the last split has made it. A round is late if the number of new blocks is less than the number of
-/// all blocks divided by `LATE_ROUND_FRACTION`. The rounds after a late round usually have few states to process.
+/// all blocks divided by `LATE_ROUND_FRACTION`. The rounds that follow a late round usually have few states to process.
 const LATE_ROUND_FRACTION: u32 = 4;
 
-/// A round is late if few blocks are new. The method `SignedBlocks::needs_index` defines the work of a late round. This
-/// constant limits the work that is done before the predecessor index is built: if the work of all earlier late rounds
-/// together is at least this constant times the number of all states, the next late round builds the index. It may also
-/// be built earlier. If states have many transitions, building the index takes as much time as three rounds that
+/// A round is late if few blocks are new. The method `SignedBlocks::needs_index` defines the work of a late round. The
+/// predecessor index is built in the first late round that satisfies one condition: the work of all earlier late rounds
+/// together is at least n times the number of all states. The number n depends on the system, and this constant is the
+/// largest possible n. If states have many transitions, building the index takes as much time as three rounds that
 /// process all states.
 const MOST_FULL_ROUNDS: u32 = 6;
 
 /// If states have few transitions, building the predecessor index takes less time, so the index is built after less
-/// work. Let n be the average number of transitions of a state, divided by `ROW_LENGTH_PER_FULL_ROUND` and rounded
-/// down, but at most `MOST_FULL_ROUNDS`. The index is built in the first late round (a round in which few blocks are
-/// new) that satisfies one condition: the work of all earlier late rounds together is at least n times the number of
-/// all states. The method `SignedBlocks::needs_index` defines the work of a late round.
+/// work. Take the average number of transitions of a state, divide it by `ROW_LENGTH_PER_FULL_ROUND`, and round down.
+/// Let n be the result, but at most `MOST_FULL_ROUNDS`. The index is built in the first late round (a round in which
+/// few blocks are new) that satisfies one condition: the work of all earlier late rounds together is at least n times
+/// the number of all states. The method `SignedBlocks::needs_index` defines the work of a late round.
 const ROW_LENGTH_PER_FULL_ROUND: u32 = 2;
 
-/// A round without a predecessor index goes through all blocks. Going through this number of blocks takes less time
+/// A round that has no predecessor index goes through all blocks. Going through this number of blocks takes less time
 /// than processing one state.
 const BLOCKS_PER_STATE: u32 = 8;
 
-/// Says whether the predecessor index was built, and whether it was searched for the states that the round processes.
+/// The state of the predecessor index: whether the index was built, and whether it was searched for the states that the
+/// round processes.
 #[derive(Drop)]
 pub(crate) enum IndexState {
-    /// There is no predecessor index yet. The next round processes the same states again, except for the states that
-    /// `drop_singletons` drops.
+    /// There is no predecessor index yet. The next round processes the same states as this round, except for the states
+    /// that `drop_singletons` drops.
     Absent,
     /// There is a predecessor index, and the states that the round processes are known.
     Searched(Predecessors),
@@ -56,9 +57,8 @@ pub(crate) enum IndexState {
 }
 
 /// The blocks, the signatures, and the predecessor index of a round. The signatures are interned in `signatures`. For
-/// each state, `signature_ids` has the ID of the signature by which the split separates the state from other states of
-/// its block. If the round does not process the state, `signature_ids` has the ID of the empty signature for this
-/// state.
+/// each state that the round processes, `signature_ids` has the ID of the signature by which the split separates the
+/// state from other states of its block. For each other state, `signature_ids` has the ID of the empty signature.
 #[derive(Drop)]
 pub struct SignedBlocks {
     pub(crate) alloc: Global,
@@ -67,12 +67,13 @@ pub struct SignedBlocks {
     pub(crate) signature_ids: Vec<u32>,
     /// Computes branching signatures. For each state, the signer caches the ID of its signature from round to round.
     pub(crate) signer: Signer,
-    /// The pairs of the transitions of one state. The same memory is used for one state after the other.
+    /// The pairs (label, target block) of the transitions of one state. The same memory is used for one state after the
+    /// other.
     pub(crate) pairs: Vec<(u32, u32)>,
     pub(crate) index_state: IndexState,
     pub(crate) visited: Visited,
-    /// If there is a predecessor index, and more signatures than this number are stored after a round, then all
-    /// signatures are discarded.
+    /// If there is a predecessor index, this is the number of signatures that may be stored after a round. If more
+    /// signatures are stored, all signatures are discarded.
     pub(crate) most_signatures: u32,
     /// The total work of all late rounds so far. A round is late if few blocks are new. All of these rounds were made
     /// without a predecessor index. The method `needs_index` defines the work of a late round.
@@ -99,7 +100,7 @@ impl Model for SignedBlocks {
 }
 
 impl SignedBlocks {
-    /// Returns a value with the blocks `blocks`. In this value, each state has the empty signature, and there is no
+    /// Returns the data for a first round with the blocks `blocks`. Each state has the empty signature, and there is no
     /// predecessor index.
     pub fn new(alloc: Global, blocks: Blocks) -> Result<SignedBlocks, Memory>
         ensures blocks { IfOk result (λ r. r.blocks ≡ blocks) }
@@ -143,8 +144,8 @@ impl SignedBlocks {
         self.blocks
     }
 
-    /// This method is a lemma, and does nothing when it runs. Its contract states what always holds for the blocks, the
-    /// active states (the states that the round processes), and the signatures.
+    /// This method is a lemma, and does nothing when it runs. Its contract states what always holds for the blocks, for
+    /// the active states (the states that the round processes), and for the signatures.
     pub fn invariants(&self)
         ensures blocks { AreBlocks self.now.blocks.block_ids self.now.blocks.count }
         ensures signatures { AreLists self.now.signatures }
@@ -158,10 +159,10 @@ impl SignedBlocks {
     }
 
     /// The active states are the states that the round processes. This function drops the states in singleton blocks
-    /// (blocks with one state) from the active states. It drops states only if, since it last dropped states, the
-    /// number of singleton blocks has grown by more than 1/32 of the number of active states. The dropped states get
-    /// the empty signature. If there is a predecessor index, the function does nothing, because the search in the index
-    /// never finds states in singleton blocks.
+    /// (blocks with one state) from the active states, and gives them the empty signature. It does so only under one
+    /// condition: the number of singleton blocks has grown by more than 1/32 of the number of active states since
+    /// states were last dropped. If there is a predecessor index, the function does nothing, because the search in the
+    /// index never finds states in singleton blocks.
     pub fn drop_singletons(mut self) -> Result<SignedBlocks, Memory>
         ensures { IfOk result (MayDropSingletons self) }
     {
@@ -193,8 +194,8 @@ impl SignedBlocks {
 
     /// A block is new if the last split has made it, and a round is late if few blocks are new. This method builds the
     /// predecessor index if this round is late, and if the earlier late rounds together have done enough work
-    /// (`needs_index`). If the index is built, each transition is visited (read and counted) once, and all interned
-    /// signatures except the empty signature are discarded.
+    /// (`needs_index`). If the method builds the index, it visits (reads and counts) each transition once, and it
+    /// discards all interned signatures except the empty signature.
     pub fn begin_index<M: Meter>(
         mut self,
         l: &Lts<M>,
@@ -236,8 +237,8 @@ impl SignedBlocks {
     /// Let n be half of the average number of transitions of a state. The number n is rounded down, and is at most
     /// `MOST_FULL_ROUNDS`. A late round has to build the index if the work of all late rounds before it is at least n
     /// times the number of all states. If a late round does not have to build the index, the call adds the work of this
-    /// round to `late_work`. Because of the choice of n, all late rounds without an index together take at most about
-    /// twice as long as building the index. If most states are in singleton blocks, a round processes few states, and
+    /// round to `late_work`. All late rounds without an index together take at most about twice as long as building the
+    /// index; n was chosen for this purpose. If most states are in singleton blocks, a round processes few states, and
     /// the index is built later or never.
     fn needs_index<M: Meter>(&mut self, l: &Lts<M>) -> bool
         ensures { self.new ≡ self.old }
@@ -264,9 +265,10 @@ impl SignedBlocks {
         self
     }
 
-    /// Makes the search for the active states of this round (the states that the round processes), if this search is
-    /// pending (`IndexState::Pending`). The search looks up the transitions that lead to states of new blocks, which
-    /// are the blocks that the last split has made. Each lookup is a visit (a counted read of a transition).
+    /// If a search of the predecessor index is pending (`IndexState::Pending`), this function makes the search, which
+    /// finds the active states of this round (the states that the round processes). The search starts at the states of
+    /// new blocks, which are the blocks that the last split has made. It looks up the transitions that lead to these
+    /// states. Each lookup is a visit (a counted read of a transition).
     pub fn find_active<M: Meter>(mut self, l: &Lts<M>, m: &mut M) -> Result<SignedBlocks, Memory>
         requires states { length self.blocks.block_ids ≡ l.now.states }
         requires pending { (e : SearchIndex) → self.index_state ≡ Pending e
@@ -304,10 +306,11 @@ impl SignedBlocks {
         })
     }
 
-    /// Splits the blocks. Two states of a block stay together if `signature_ids` has the same ID for both. If there is
-    /// a predecessor index, the search for the states that the next round processes is pending afterwards. There is one
-    /// exception: if there are more than `most_signatures` signatures, the function discards all signatures, and the
-    /// next round processes all states that can be split (`activate_all`).
+    /// Splits the blocks. Two states of a block stay together if and only if `signature_ids` has the same ID for both
+    /// states. If there is a predecessor index, the next round usually begins with a search in this index for the
+    /// states that it processes. So this search is pending after the split. There is one exception: if more than
+    /// `most_signatures` signatures are stored, the function discards all signatures, and the next round processes all
+    /// states that can be split (`activate_all`).
     pub fn split<M: Meter>(self, l: &Lts<M>) -> Result<SignedBlocks, Memory>
         requires { length self.blocks.block_ids ≡ l.now.states }
         ensures { IfOk result (IsSplitOf l.now self) }
@@ -334,8 +337,8 @@ impl SignedBlocks {
     }
 }
 
-/// Discards all signatures, and makes sure that the next round processes all states that have a transition and are not
-/// in a singleton block (`splittable_states`).
+/// Discards all signatures. The next round then processes all states that have a transition and are not in a singleton
+/// block (`splittable_states`).
 fn activate_all<M: Meter>(
     round: SignedBlocks,
     predecessors: Predecessors,
@@ -359,9 +362,9 @@ fn activate_all<M: Meter>(
     })
 }
 
-/// Returns the number of signatures above which all signatures are discarded. A round that processes the states in
-/// `active` makes at most one signature for each of these states, and the empty signature. The result is twice the
-/// number of these signatures.
+/// Returns the value of `most_signatures`: if more signatures than this number are stored, all signatures are
+/// discarded. A round that processes the states in `active` makes at most one signature for each of these states, and
+/// the empty signature. The result is twice this number of signatures.
 fn most_signatures(active: &[u32]) -> u32
     requires { length active.now ≤ MOST_STATES }
     ensures { result ≡ 2 * (length active.now + 1) }

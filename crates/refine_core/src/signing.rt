@@ -19,8 +19,8 @@ use partition::Blocks;
 use signatures::Interner;
 use std::alloc::Global;
 
-/// A relation for which rounds can compute signatures. The constant `relation` names this relation. The crate `theory`
-/// defines bisimulation, signatures and splits for each relation, and proves the theorems on which refinement is based.
+/// A relation (strong or branching bisimilarity) for which rounds can compute signatures. The constant `relation` is
+/// the name of this relation in the definitions of the crate `theory`.
 pub trait Signing {
     ghost relation: { Relation };
 
@@ -41,15 +41,16 @@ pub trait Signing {
         // Always
         ensures cost { Costs (M.counted m.old) (M.counted m.new) 0 0 (length l.now.places) };
 
-    /// Discards the signatures that are cached from round to round. Does nothing for strong bisimilarity, because no
-    /// strong signature is cached.
+    /// For branching bisimilarity, discards the signatures that are cached from round to round. For strong
+    /// bisimilarity, does nothing, because no strong signature is cached.
     fn discard_cached(round: SignedBlocks) -> Result<SignedBlocks, Memory>
         ensures same { IfOk result (λ r. (r.blocks ≡ round.blocks) × (r.visited ≡ round.visited)) }
         ensures discarded { IfOk result (λ r. relation ≡ branching
             → HasNoSignatures r.blocks.block_ids r.signatures r.cached) };
 
     /// Computes the signature of each active state (each state that the round processes). A visit is a counted read of
-    /// a transition. If a transition was already visited in this round, reading it again is not counted.
+    /// a transition. If a transition was already visited in this round, the method reads it again without counting the
+    /// read.
     fn sign<M: Meter>(l: &Lts<M>, round: SignedBlocks, m: &mut M) -> Result<SignedBlocks, Memory>
         requires states { length round.blocks.block_ids ≡ l.now.states }
         requires ready { (old : Option (List ℕ)) × IsReadyToSign relation l.now old round }
@@ -64,9 +65,9 @@ pub trait Signing {
             (length (remaining_of round.visited l.now.places)) };
 }
 
-/// Finds the states that the round processes, and computes their signatures. The split then uses these signatures to
-/// separate states of the same block. The number of visits (counted reads of transitions) equals the number of
-/// transitions. If fewer visits are needed, the function makes further visits and ignores their results.
+/// Finds the states that the round processes, and computes their signatures. The split that follows uses these
+/// signatures to separate states of the same block. The number of visits (counted reads of transitions) equals the
+/// number of transitions. If fewer visits are needed, the function makes further visits and ignores their results.
 pub(crate) fn sign_each<S: Signing, M: Meter>(
     l: &Lts<M>,
     round: SignedBlocks,
@@ -143,9 +144,9 @@ fn sign_and_visit_rest<S: Signing, M: Meter>(
     Ok(signed)
 }
 
-/// Begins a round. If there is no predecessor index, the function calls `Signing::begin`. If a search of the index is
-/// pending, the function makes this search in order to find the active states, which are the states that the round
-/// processes.
+/// Begins a round. If there is no predecessor index, the function calls `Signing::begin`, which may build the index. If
+/// a search of the index is pending, the function makes this search. The search finds the active states, which are the
+/// states that the round processes.
 fn begin_round<S: Signing, M: Meter>(
     l: &Lts<M>,
     round: SignedBlocks,

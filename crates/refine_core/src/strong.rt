@@ -60,8 +60,8 @@ impl Signing for Strong {
 }
 
 /// Computes the signatures of the states in `active` (the states that the round processes), interns these signatures in
-/// `signatures`, and stores their IDs in `signature_ids`. A block is new if the last split has made it. If a state has
-/// no transition to a new block, the state gets the ID of the empty signature instead.
+/// `signatures`, and stores their IDs in `signature_ids`. A block is new if the last split has made it. A state that
+/// has no transition to a new block gets the ID of the empty signature instead.
 fn sign_active<M: Meter>(
     under: &NewBlocks<M>,
     visited: &Visited,
@@ -92,8 +92,8 @@ fn sign_active<M: Meter>(
     Ok(())
 }
 
-/// The input for reading the row of a state, which is the list of its transitions: the system, the block ID of each
-/// state, and the ID of the first new block (`first_new`).
+/// The input of the functions that read the row of a state, which is the list of its transitions. The input consists of
+/// the system, the block ID of each state, and the ID of the first new block (`first_new`).
 #[derive(Drop)]
 pub struct NewBlocks<'a, M: Meter> {
     pub l: &'a Lts<M>,
@@ -132,9 +132,10 @@ fn intern_signature<M: Meter>(
     signatures.push(pairs)
 }
 
-/// Has the same result as the function `read`, which stores the pairs (label, target block) of the transitions of `s`
-/// in `pairs`. A visit is a counted read of a transition. If a transition was already visited in this round, this
-/// function reads the transition without counting the read.
+/// Stores the pairs (label, target block) of the transitions of `s` in `pairs`, and returns whether at least one of
+/// these pairs has a new block, which is a block that the last split has made. The function `read` does the same, but
+/// counts each read of a transition as a visit. If a transition was already visited in this round, this function reads
+/// the transition without counting the read.
 #[inline(always)]
 fn read_unvisited<M: Meter>(
     under: &NewBlocks<M>,
@@ -178,7 +179,7 @@ fn read_unvisited<M: Meter>(
 }
 
 /// Stores the pairs (label, target block) of the transitions of `s` in `pairs`, in the order of these transitions.
-/// Returns whether the block of some pair is new (made by the last split).
+/// Returns whether at least one of these pairs has a new block, which is a block that the last split has made.
 #[inline(always)]
 pub fn read<M: Meter>(
     under: &NewBlocks<M>,
@@ -222,9 +223,9 @@ pub fn read<M: Meter>(
     Ok(affected)
 }
 
-/// Appends the pair (label, target block) of a transition to `pairs`. Returns whether `pairs` now has a pair with a new
-/// block, which is a block that the last split has made. The argument `affected` says whether `pairs` had such a pair
-/// before the call.
+/// Appends the pair (label, target block) of a transition to `pairs`. A block is new if the last split has made it. The
+/// argument `affected` says whether a pair with a new block is in `pairs` before the call. The function returns whether
+/// such a pair is in `pairs` after the call.
 #[inline(always)]
 fn collect(
     p: &[u32],

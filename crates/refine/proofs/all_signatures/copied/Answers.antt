@@ -3,7 +3,8 @@ use Rattle.std.proofs.lemmas.Result.{IfOk-weaker}
 use Rattle.refine.proofs.all_signatures.copied.Goals as goal
 use Rattle.refine.proofs.all_signatures.copied.Goals.{In_ok-extend_from_slice}
 
--- The function `copied` copies the blocks of the partition `p`. Each state has the same block ID in the copy as in `p`.
+-- The function `copied` copies the blocks of the partition `p`. This lemma states that each state has the same block ID
+-- in the copy as in `p`.
 of : (c : In_ok-extend_from_slice) → c.extend_from_slice.new.self.items ≡ c.args.p.now
 of c = search rules
 

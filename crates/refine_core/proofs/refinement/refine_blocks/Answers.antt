@@ -73,8 +73,8 @@ module _ (g : Over) (c : After-count-more g) where
   costs = let made = c.loop-before.invariant.made in
       omega (arith, suc-mul made.rounds (length c.args.l.now.places), made.costs, c.in_ok-next.ensures.costs)
 
-  -- If the round has split no block, then it was the last round, and the number of rounds is the number that `Turns`
-  -- defines.
+  -- Suppose that the round has split no block. Then `Turns` holds for the number of rounds: this round is the first
+  -- round that has split no block.
   turns : c.count-more.result ≡ c.count-count.result →
       Turns g.S.Signing.relation (system_of c.args.l.now) (suc c.loop-before.invariant.made.rounds)
   turns e = c.refinement_goes_on.ensures.done _ (system_of c.args.l.now) _ (slice_index old.block_ids) _
@@ -108,7 +108,8 @@ returns-then-more-count-clause-turns g c =
     let d = (goal.at.returns-then-more-count-clause-turns g c).After-count-more in
     (_, c.loop-before.invariant.made.fewer, turns g d c.if-more-count.true, costs g d)
 
--- If a round has split a block, the invariant of the loop over the rounds holds again.
+-- Suppose that the invariant of the loop over the rounds holds before a round, and that this round has split a block.
+-- Then the invariant holds after the round, too.
 pub loop-before-preserved : goal.loop-before-preserved
 loop-before-preserved g c =
     let d = (goal.at.loop-before-preserved g c).After-count-more in

@@ -15,8 +15,8 @@ pub begin-requires-clause-ready_for_round : goal.begin-requires-clause-ready_for
 begin-requires-clause-ready_for_round g c = rw c.clear_visited-round.ensures
     (awaits_cleared g.S.Signing.relation c.args.l.now c.args.round c.requires.ready_for_round)
 
--- Suppose that there is a predecessor index, and that the search in this index has ended. Then the round has begun
--- (`IsBegun`).
+-- Suppose that there is a predecessor index, and that the call of `find_active`, which makes a pending search of this
+-- index, has succeeded. Then the round is ready for computing signatures (`IsBegun`).
 pub returns-in_default-clause-begun : goal.returns-in_default-clause-begun
 returns-in_default-clause-begun g c =
     let l = c.args.l.now in

@@ -8,7 +8,9 @@ use Rattle.refine_core.proofs.strong.sign_active.Goals as goal
 use Rattle.refine_core.proofs.strong.sign_active.Given.{Over}
 use Rattle.refine_core.proofs.strong.sign_active.Goals.{In-loop-i}
 
--- The loop visits (reads and counts) transitions of the active states, which are the states that the round processes.
+-- The following lemmas are about one iteration of a loop that goes through the active states, which are the states that
+-- the round processes. The iteration computes the signature of one active state, and visits (reads and counts) its
+-- transitions.
 module _ (g : Over) (c : In-loop-i g) where
   more : c.loop-i.i < length c.args.active.now
   more = omega (arith, c.loop-i-test.true, c.loop-i.auto.i-end)
@@ -53,9 +55,9 @@ returns-in_err-signature_ids-clause-cost g c =
 pub returns-clause-cost : goal.returns-clause-cost
 returns-clause-cost g c = search (rules, before-le, c.loop-i.invariant.visits)
 
--- For each active state (each state that the round processes), `signature_ids` has the ID of its split signature
--- (`IsStrongSplitSignature`): the empty signature if the signature of the state has not changed, and otherwise the new
--- signature.
+-- For each active state (each state that the round processes), the list `signature_ids` has the ID of its split
+-- signature (`IsStrongSplitSignature`). The split signature is empty if the signature of the state has not changed
+-- since the last round, and otherwise it is the new signature.
 pub returns-clause-signed : goal.returns-clause-signed
 returns-clause-signed g c s (j, h, is) =
     rw is at (c.loop-i.invariant.put j (omega (arith, h, c.loop-i-test.false, c.loop-i.auto.i-end))).holds
