@@ -31,10 +31,10 @@ with_pushed s next end items w = record w {
 }
 
 -- A component is a set of states on the stack that inert transitions connect in both directions. The root of a
--- component is its first state on the stack, and the height of a root is its index on the stack. `CutsRoots` compares
--- two lists `old` and `new` of roots. It holds under three conditions. First, `new` is a prefix of `old`. Second, each
--- root of `old` that is after this prefix has a height greater than q. Third, if `new` is not empty, its last root has
--- a height of at most q.
+-- component is its first state on the stack, and the height of a root is its index on the stack. `CutsRoots` is about
+-- two lists `old` and `new` of roots, and about an index q on the stack. It holds under three conditions. First, `new`
+-- is a prefix of `old`. Second, each root of `old` that is not in this prefix has a height greater than q. Third, if
+-- `new` is not empty, the last root of `new` has a height of at most q.
 pub record CutsRoots (q : ℕ) (old new : List Root) : Type 0 where
   pub count : ℕ
   pub roots : new ≡ take count old

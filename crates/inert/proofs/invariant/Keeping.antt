@@ -85,11 +85,11 @@ module _ {u : Under} {signatures lists' : List (List (ℕ × ℕ))} (grow : Grow
     followed = λ inert. followed_still p e.2 h (with_pushed e.2) (done.followed inert);
   }
 
-  -- Suppose that a move of the search does not change the states below the index n of the stack. Consider an outgoing
-  -- transition of one of these states. Suppose that two conditions hold. First, if the transition is still to be read
-  -- before the move, it is still to be read or was processed after the move. Second, if the search has not yet returned
-  -- from the target of a transition of this state before the move, it has followed this transition after the move
-  -- (`IsFollowed`). Then the transition is still to be read or was processed after the move.
+  -- Suppose that a move of the search does not change the states below the index n of the stack. Let s be one of these
+  -- states. Suppose that two conditions hold. First, if a certain transition of s was still to be read before the move,
+  -- then it is still to be read or was processed after the move. Second, if the search had gone from s to some state
+  -- and had not yet returned from it before the move, then it has followed an inert step from s to this state after the
+  -- move (`IsFollowed`). Then the transition of s is still to be read or was processed after the move.
   pub accounted_still : (p k : ℕ) → p < n → k < length u.l.places
       → source_of (place_at u.l.places k) ≡ slice_index new.stack p
       → (IsToBeRead w p k → IsToBeRead new p k ⊎ IsHandled u lists' new p (place_at u.l.places k))

@@ -39,8 +39,8 @@ module _ {u : Under} {signatures : List (List (ℕ × ℕ))} {w : Search} (walks
   popped_same i h = (omega (arith, popped_size, h), get_or-take (length w.frames - 1) w.frames i no_frame h)
 
   -- Each frame belongs to a state on the stack, and records which outgoing transitions of this state are still to be
-  -- read. Suppose that a state with a frame is below the state of the last frame on the stack. Then it still has a
-  -- frame after the last frame was popped.
+  -- read. Suppose that a state with a frame is below the state of the last frame on the stack. Then the state below
+  -- still has a frame after the last frame was popped.
   popped_framed : (p : ℕ) → p < here w → (i : ℕ) × (i < length w.frames) × ((frame_at w.frames i).height ≡ p)
       → (i : ℕ) × (i < length (popped w).frames) × ((frame_at (popped w).frames i).height ≡ p)
   popped_framed p before (i, low, is) = grind (arith, not_last walks i low, before, popped_same i, is)
@@ -164,8 +164,8 @@ module _ (laws : Laws) {u : Under} (lts : IsLts u.l) {before signatures : List (
   each_item P old last j low = grind (arith, old j, last, item_new, no_item, low)
 
   -- The root of a component is its first state on the stack. Suppose that the last component is completed, so that its
-  -- root is removed. Then each remaining root is at the same index of the list of roots as before, satisfied `IsRoot`
-  -- before, and came before the removed root.
+  -- root is removed. Then each remaining root is at the same index of the list of roots as before. Before the last
+  -- component was completed, this root satisfied `IsRoot` and came before the removed root.
   root_left : (i : ℕ) (d : Root) → i < length new.roots → (i < length w.roots)
       × (get_or new.roots i d ≡ get_or w.roots i d) × IsRoot w.frames w.items (get_or w.roots i d)
       × IsBefore (get_or w.roots i d) (last w.roots)

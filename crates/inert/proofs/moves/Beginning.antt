@@ -33,10 +33,12 @@ collecting stages items = record (nothing stages) { items = items }
 abbrev pub framed : ℕ → ℕ → ℕ → List VisitState → List Item → Search
 framed s next end stages items = with_pushed s next end 0 (collecting stages items)
 
--- The place of a transition is its index in the list of all transitions. Let `old` be the data of the search before it
--- began, and let w be its data now. The interned signatures were `before` at that point, and are `signatures` now.
--- `Begins` holds if the search has begun at the state s, and has read the transitions of s at the places from `start`
--- up to but excluding k.
+-- Let `old` be the data of the search before it began at the state s, and let w be its data now. The interned
+-- signatures were `before` at that point, and are `signatures` now. The search has read the transitions of s at the
+-- places (indices in the list of all transitions) from `start` up to but excluding k. `Begins` holds under three
+-- conditions. First, the search has gone on from `old` to w (`GoesOn`). Second, s is not unvisited in w. Third, the
+-- number of visits (counted reads) that the search had to make in `old` equals the number of visits that it still has
+-- to make in w plus the number of visits that reading the transitions from `start` to k took.
 pub record Begins (u : Under) (before signatures : List (List (ℕ × ℕ))) (old : Search) (s start k : ℕ) (w : Search) :
     Type 0
   where
@@ -45,8 +47,9 @@ pub record Begins (u : Under) (before signatures : List (List (ℕ × ℕ))) (ol
     pub forward : start ≤ k
     pub less : ahead u w + price_between u.visited start k ≡ unread (remaining u) old.stages
 
--- Suppose that no search is in progress, and that the state s is unvisited. If s is pushed with a frame for all of its
--- outgoing transitions, then the search has begun at s and has read none of these transitions (`Begins`).
+-- Suppose that no search is in progress, and that the unvisited state s is then pushed with a frame for all of its
+-- outgoing transitions. Then the invariant of the search still holds, and the number of visits (counted reads of
+-- transitions) that the search has to make has not changed (`Begins`).
 pub begins : {u : Under} {signatures : List (List (ℕ × ℕ))} {w : Search} {s start end : ℕ} → Laws
     → IsAtRest u signatures w → s < u.l.states → stage_at w.stages s ≡ Unvisited → IsRow u.l.places s start end
     → Begins u signatures signatures w s start start (framed s start end w.stages w.items)
@@ -73,9 +76,10 @@ module _ (laws : Laws) {u : Under} (lts : IsLts u.l) {signatures : List (List (�
     abbrev Next : Search → Type 0
     Next m = Begins u signatures signatures old s start (k + 1) m
 
-    -- A place is an index in the list of all transitions. Suppose that the search pushes its first state s with a frame
-    -- for the transitions of s after the place k, and then processes the transition at the place k. Then the search has
-    -- read the transitions of s up to and including the place k (`Begins`).
+    -- A place is an index in the list of all transitions. Suppose that `Begins` holds for the first state s of the
+    -- search and for the place k. This means that the search has read the transitions of s before the place k. Suppose
+    -- also that s is on the stack with a frame for its transitions after the place k, and that the search then
+    -- processes the transition at the place k. Then `Begins` holds for the place k + 1.
     pub takes_framed : (step : Step) {m : Search} (enters : Bool) → Is step →
         HandlesStep u.l.places step (framed s (k + 1) end old.stages w.items) m enters → Next m
     takes_framed step enters is takes =
@@ -108,7 +112,7 @@ module _ (laws : Laws) {u : Under} (lts : IsLts u.l) {signatures : List (List (�
 
   -- An item is a pair (label ID, block) or a signature ID. A signature ID represents all pairs of the signature with
   -- this ID. These lemmas assume that all transitions of the first state s were read. They also assume that s is then
-  -- completed with the signature whose pairs the collected items represent.
+  -- completed with a signature that has exactly the pairs that the collected items represent.
   module _ (over : end ≤ k) {lists' : List (List (ℕ × ℕ))} {id : ℕ}
       (listed : IsUnionOfItems w.items signatures lists' id)
       (low : s < length old.stages) where

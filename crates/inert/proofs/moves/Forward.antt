@@ -170,7 +170,8 @@ module _ {u : Under} {signatures : List (List (ℕ × ℕ))} {w : Search} (walks
     before_new : (P : Root → Type 0) → All P Entered.roots → All P w.roots
     before_new P all i d h = search (rules, get_or_append_left, w.roots, length_push)
 
-    -- After the state t is pushed at the index n of the stack, its status is `OnStack n`. No other status has changed.
+    -- After the state t is pushed at the index n of the stack, its status is `OnStack n`. The statuses of all other
+    -- states have not changed.
     stage_of : (s : ℕ) → ((s ≡ t) × (stage_at Entered.stages s ≡ OnStack n))
         ⊎ (stage_at Entered.stages s ≡ stage_at w.stages s) × (s ≢ t)
     stage_of s = grind (arith, elements, cases_eq s t, within)

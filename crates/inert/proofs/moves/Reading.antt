@@ -140,8 +140,11 @@ marked_first places w enters (Goes t) low (inr (inr (id, stage, new, stay))) =
     (with_item (Interned id) w, inr (inr (id, stage, refl, stay)), new)
 
 -- The last frame of the search records which outgoing transitions of the current state are still to be read. `Reads`
--- holds if the search has gone from `old` to `new` by reading the transitions that the last frame of `old` records, up
--- to but excluding the transition at the place (index) k.
+-- describes a search that has gone from `old` to `new` by reading the transitions that the last frame of `old` records,
+-- up to but excluding the transition at the place (index) k. It holds under three conditions. First, the search has
+-- gone on from `old` to `new` (`GoesOn`). Second, in `new`, the next transition of this frame is at the place k. Third,
+-- the number of visits (counted reads) that the search had to make in `old` equals the number of visits that it still
+-- has to make in `new` plus the number of visits that reading these transitions took.
 pub record Reads (u : Under) (signatures : List (List (ℕ × ℕ))) (old new : Search) (k : ℕ) : Type 0 where
   pub on : GoesOn u signatures signatures old new
   pub here : frame_at new.frames (length old.frames - 1) ≡ record (top old.frames) { next = k }
@@ -198,8 +201,9 @@ module _ {u : Under} {signatures : List (List (ℕ × ℕ))} {first w : Search} 
       same_last : i ≡ length w.frames - 1
       same_last = omega (arith, stays.size, last)
 
-      -- Suppose that the search first processes the transition at the place (index) k, and then marks it as read. Then
-      -- the search has read the transitions up to and including this transition (`Marked`).
+      -- Suppose that the search has read all transitions of the current state before the place (index) k. It then first
+      -- processes the transition at the place k, and afterwards marks it as read. Then the invariant of the search
+      -- still holds (`Marked`).
       taken_first : (m : Search) (enters : Bool) → HandlesStep u.l.places step w m enters
           → Marked u signatures first (record m { frames = set m.frames i x }) k enters
       taken_first m enters takes =
@@ -229,8 +233,9 @@ module _ {u : Under} {signatures : List (List (ℕ × ℕ))} {first w : Search} 
           let one = price_one_more u.visited (top first.frames).next k reads.forward in
           grind (arith, on, here, remaining, is_next, next, before, took, reads, one, length-set m.frames i x, stays)
 
-      -- Suppose that the search first marks the transition at the place (index) k as read, and then processes it. Then
-      -- the search has read the transitions up to and including this transition (`Marked`).
+      -- Suppose that the search has read all transitions of the current state before the place (index) k. It then first
+      -- marks the transition at the place k as read, and afterwards processes it. Then the invariant of the search
+      -- still holds (`Marked`).
       pub marked : {m : Search} {enters : Bool} →
           HandlesStep u.l.places step (record w { frames = set w.frames i x }) m enters
           → Marked u signatures first m k enters

@@ -21,8 +21,8 @@ step-step-requires-clause-room g c = let i = c.loop-k.invariant in
     omega (arith, c.requires.room, i.cost, i.begun.less, price_first c.args.lens.now.visited _ _ c.loop-k-test.true)
 
 -- A visit is a counted read of a transition. Suppose that the search has just read a transition of its first state.
--- Then the number of visits that it has made since it began is at most the number of transitions that need a visit and
--- had an unvisited source when it began.
+-- Then the number of visits that the search has made since it began is at most the number of transitions that needed a
+-- visit and had an unvisited source when the search began.
 spent : (g : Over) (c : After-step-step g) → Costs (g.M.Meter.counted c.args.m.now)
     (g.M.Meter.counted c.step-step.new.m) 0 0 (unread (remaining c.args.lens.now) c.args.self.now.stages)
 spent g c = let i = c.loop-k.invariant in
