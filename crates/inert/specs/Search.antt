@@ -157,15 +157,15 @@ pub record Laws : Type 0 where
 abbrev pub LeadsInertly : Under → ℕ → ℕ → Type 0
 LeadsInertly u s t = Leads (Inert (system_of u.l) (slice_index u.blocks)) s t
 
--- The stack is divided into components, each of which consists of adjacent states. Consider the component that contains
--- the state at the index p of the stack. `IsNotBelow` holds if the index q is at least the index of the first state of
--- this component.
+-- The stack is divided into components, which are strongly connected sets of adjacent states. Consider the component
+-- that contains the state at the index p of the stack. `IsNotBelow` holds if the index q is at least the index of the
+-- first state of this component.
 abbrev pub IsNotBelow : List Root → ℕ → ℕ → Type 0
 IsNotBelow roots p q = All (λ r. r.height ≤ p → r.height ≤ q) roots
 
--- The stack is divided into components, which collect items: pairs (label ID, block) and signature IDs. Consider the
--- component that contains the state at the index p of the stack. `BelongsTo` holds if this component has collected the
--- item at the index j of the list of items.
+-- The stack is divided into components, which are strongly connected sets of states. Each component collects items:
+-- pairs (label ID, block) and signature IDs. Consider the component that contains the state at the index p of the
+-- stack. `BelongsTo` holds if this component has collected the item at the index j of the list of items.
 abbrev pub BelongsTo : List Root → ℕ → ℕ → Type 0
 BelongsTo roots j p = All (λ r. (r.height ≤ p → r.items ≤ j) × (p < r.height → j < r.items)) roots
 
@@ -176,9 +176,10 @@ abbrev pub GivesPair : List (List (ℕ × ℕ)) → Item → ℕ × ℕ → Type
 GivesPair signatures (Pair a b) z = (a, b) ≡ z
 GivesPair signatures (Interned k) z = Contains (list_at signatures k) z
 
--- The stack is divided into components, which collect items: pairs (label ID, block) and signature IDs. A signature ID
--- represents all pairs of the signature with this ID. Consider the component that contains the state at the index p of
--- the stack. `ComponentHasPair` holds if this component has collected an item that represents the pair z.
+-- The stack is divided into components, which are strongly connected sets of states. Each component collects items:
+-- pairs (label ID, block) and signature IDs. A signature ID represents all pairs of the signature with this ID.
+-- Consider the component that contains the state at the index p of the stack. `ComponentHasPair` holds if this
+-- component has collected an item that represents the pair z.
 abbrev pub ComponentHasPair : List (List (ℕ × ℕ)) → Search → ℕ → ℕ × ℕ → Type 0
 ComponentHasPair signatures w p z = (j : ℕ) × (j < length w.items) × GivesPair signatures (item_at w.items j) z
     × BelongsTo w.roots j p
@@ -208,20 +209,22 @@ pub record IsCacheable (u : Under) (s : ℕ) (signatures : List (List (ℕ × �
 abbrev pub AreCacheable : Under → List (List (ℕ × ℕ)) → List VisitState → Type 0
 AreCacheable u signatures stages = (s k : ℕ) → stage_at stages s ≡ Completed k → IsCacheable u s signatures stages k
 
--- The stack is divided into components, which collect items: pairs (label ID, block) and signature IDs. A value of type
--- `Root` belongs to a component. It has the index of the first state of the component on the stack, and the index at
--- which the items of the component begin in the list of all items. `IsRoot` holds under two conditions. First, the
--- first state of the component has a frame, which means that the search has not yet gone back from this state. Second,
--- the index at which the items begin is at most the number of all items.
+-- The stack is divided into components, which are strongly connected sets of states. Each component collects items:
+-- pairs (label ID, block) and signature IDs. A value of type `Root` belongs to a component. It has the index of the
+-- first state of the component on the stack, and the index at which the items of the component begin in the list of all
+-- items. `IsRoot` holds under two conditions. First, the first state of the component has a frame, which means that the
+-- search has not yet gone back from this state. Second, the index at which the items begin is at most the number of all
+-- items.
 pub record IsRoot (frames : List Frame) (items : List Item) (r : Root) : Type 0 where
   pub framed : (i : ℕ) × (i < length frames) × ((frame_at frames i).height ≡ r.height)
   pub within : r.items ≤ length items
 
--- The stack is divided into components, which collect items: pairs (label ID, block) and signature IDs. A value of type
--- `Root` belongs to a component. It has the index of the first state of the component on the stack, and the index at
--- which the items of the component begin in the list of all items. `AreRoots` holds under three conditions. First, if
--- the stack is not empty, some component begins at the index 0 of the stack. Second, the roots are in ascending order
--- of both of their indices, and no two components begin at the same state. Third, each root satisfies `IsRoot`.
+-- The stack is divided into components, which are strongly connected sets of states. Each component collects items:
+-- pairs (label ID, block) and signature IDs. A value of type `Root` belongs to a component. It has the index of the
+-- first state of the component on the stack, and the index at which the items of the component begin in the list of all
+-- items. `AreRoots` holds under three conditions. First, if the stack is not empty, some component begins at the index
+-- 0 of the stack. Second, the roots are in ascending order of both of their indices, and no two components begin at the
+-- same state. Third, each root satisfies `IsRoot`.
 pub record AreRoots (w : Search) : Type 0 where
   pub first : 0 < length w.stack → ¬ All (λ r. 0 < r.height) w.roots
   pub ascending : AllPairs (λ x y. (x.height < y.height) × (x.items ≤ y.items)) w.roots
@@ -246,17 +249,17 @@ pub record AreFrames (l : Grouped) (stack : List ℕ) (frames : List Frame) : Ty
   pub ascending : AllPairs (λ x y. x.height < y.height) frames
   pub each : All (IsFrame l stack) frames
 
--- The stack is divided into components, each of which consists of adjacent states. `Connects` holds if paths of inert
--- steps lead from each state on the stack to all states of its component and to all states that are higher on the
--- stack.
+-- The stack is divided into components, which are strongly connected sets of adjacent states. `Connects` holds if paths
+-- of inert steps lead from each state on the stack to all states of its component and to all states that are higher on
+-- the stack.
 abbrev pub Connects : Under → Search → Type 0
 Connects u w = (p q : ℕ) → p < length w.stack → q < length w.stack → IsNotBelow w.roots p q →
     LeadsInertly u (slice_index w.stack p) (slice_index w.stack q)
 
--- The stack is divided into components, which collect items: pairs (label ID, block) and signature IDs. A signature ID
--- represents all pairs of the signature with this ID. Consider the component that has collected the item at the index j
--- of the list of items. `IsSound` holds if the signature of some state of this component contains all pairs that the
--- item represents.
+-- The stack is divided into components, which are strongly connected sets of states. Each component collects items:
+-- pairs (label ID, block) and signature IDs. A signature ID represents all pairs of the signature with this ID.
+-- Consider the component that has collected the item at the index j of the list of items. `IsSound` holds if the
+-- signature of some state of this component contains all pairs that the item represents.
 abbrev pub IsSound : Under → List (List (ℕ × ℕ)) → Search → ℕ → Type 0
 IsSound u signatures w j = (p : ℕ) × (p < length w.stack) × BelongsTo w.roots j p ×
     ((z : ℕ × ℕ) → GivesPair signatures (item_at w.items j) z
@@ -286,10 +289,10 @@ IsToBeRead w p k = (i : ℕ) × (i < length w.frames) × ((frame_at w.frames i).
 abbrev pub IsInComponent : Search → ℕ → ℕ → Type 0
 IsInComponent w p t = (q : ℕ) × (stage_at w.stages t ≡ OnStack q) × IsNotBelow w.roots p q × IsNotBelow w.roots q p
 
--- The stack is divided into components, which collect items: pairs (label ID, block) and signature IDs. A signature ID
--- represents all pairs of the signature with this ID. Consider the component that contains the state at the index p of
--- the stack. `IsCollected` holds if the state t is completed, and the items of this component represent all pairs of
--- the cached signature of t.
+-- The stack is divided into components, which are strongly connected sets of states. Each component collects items:
+-- pairs (label ID, block) and signature IDs. A signature ID represents all pairs of the signature with this ID.
+-- Consider the component that contains the state at the index p of the stack. `IsCollected` holds if the state t is
+-- completed, and the items of this component represent all pairs of the cached signature of t.
 abbrev pub IsCollected : List (List (ℕ × ℕ)) → Search → ℕ → ℕ → Type 0
 IsCollected signatures w p t =
     (k : ℕ) × (stage_at w.stages t ≡ Completed k)

@@ -41,9 +41,10 @@ pub(crate) struct Frame {
     pub end: u32,
 }
 
-/// The stack is divided into components, which collect items: pairs (label ID, target block) and signature IDs. The
-/// root of a component is its first state on the stack. The field `height` is the index of this state on the stack. The
-/// field `items` is the index at which the items of the component begin in the vector of all items.
+/// The stack is divided into components, which are strongly connected sets of states. Each component collects items:
+/// pairs (label ID, target block) and signature IDs. The root of a component is its first state on the stack. The field
+/// `height` is the index of this state on the stack. The field `items` is the index at which the items of the component
+/// begin in the vector of all items.
 #[derive(Clone, Copy)]
 pub(crate) struct Root {
     pub height: u32,
@@ -65,8 +66,8 @@ pub(crate) struct DepthFirstSearch {
     pub roots: Vec<Root>,
     pub items: Vec<CompactItem>,
     /// The vectors `signature_ids` and `pairs` are working memory for `intern_items`, which interns the signature of a
-    /// component. The component has collected items. The vector `pairs` is for the items that are pairs (label ID,
-    /// target block), and the vector `signature_ids` is for the items that are signature IDs.
+    /// strongly connected component. The component has collected items. The vector `pairs` is for the items that are
+    /// pairs (label ID, target block), and the vector `signature_ids` is for the items that are signature IDs.
     pub signature_ids: Vec<u32>,
     pub pairs: Vec<(u32, u32)>,
 }
@@ -186,10 +187,10 @@ impl DepthFirstSearch {
         }
     }
 
-    /// Pushes the state `s` on the stack as a component of its own. The items of a component are pairs (label ID,
-    /// target block) and signature IDs. The items of the new component begin at the index `items` in the vector of all
-    /// items. The transitions of `s` at the places (indices) `next..end` are still to be read. The frame of `s` records
-    /// these places.
+    /// Pushes the state `s` on the stack as a component of its own. A component is a strongly connected set of states
+    /// on the stack, and its items are pairs (label ID, target block) and signature IDs. The items of the new component
+    /// begin at the index `items` in the vector of all items. The transitions of `s` at the places (indices)
+    /// `next..end` are still to be read. The frame of `s` records these places.
     #[inline(always)]
     pub fn push_state(&mut self, s: u32, next: u32, end: u32, items: usize) -> Result<(), Memory>
         requires state { s < length self.old.stages }
@@ -204,12 +205,13 @@ impl DepthFirstSearch {
         Ok(())
     }
 
-    /// Processes one outgoing transition of the current state of the search. The component of the current state is at
-    /// the top of the stack. If the transition is not inert, this component collects the pair (label ID, target block)
-    /// of the transition. If the transition is inert, there are three cases for the status of its target. An unvisited
-    /// target is pushed on the stack as a component of its own. If the target is on the stack, the component of the
-    /// target and all components above it are merged. If the target is completed, the component of the current state
-    /// collects the signature ID of the target. Returns whether a state was pushed.
+    /// Processes one outgoing transition of the current state of the search. A component is a strongly connected set of
+    /// states on the stack, and the component of the current state is at the top of the stack. If the transition is not
+    /// inert, this component collects the pair (label ID, target block) of the transition. If the transition is inert,
+    /// there are three cases for the status of its target. An unvisited target is pushed on the stack as a component of
+    /// its own. If the target is on the stack, the component of the target and all components above it are merged. If
+    /// the target is completed, the component of the current state collects the signature ID of the target. Returns
+    /// whether a state was pushed.
     #[inline(always)]
     pub fn handle_step<M: Meter>(&mut self, lens: &Lens<M>, step: Step) -> Result<bool, Memory>
         requires state { (t : ℕ) → step ≡ Inert t → t < lens.now.l.states }
@@ -249,8 +251,9 @@ impl DepthFirstSearch {
     }
 }
 
-/// The stack is divided into components, and the root of a component is its first state on the stack. This function
-/// removes all roots that are above the index `height` of the stack from the vector `roots`.
+/// The stack is divided into components, which are strongly connected sets of states. The root of a component is its
+/// first state on the stack. This function removes all roots that are above the index `height` of the stack from the
+/// vector `roots`.
 fn cut(roots: &mut Vec<Root>, height: u32)
     ensures { CutsRoots height roots.old.items roots.new.items }
 {

@@ -126,7 +126,8 @@ impl DepthFirstSearch {
 
     /// Each frame belongs to a state on the stack, and records which outgoing transitions of this state are still to be
     /// read. The function pops the last frame after all outgoing transitions of its state were read. If this state is
-    /// the first state of a component on the stack, the component is completed.
+    /// the first state of a component, which is a strongly connected set of states on the stack, the component is
+    /// completed.
     fn go_back<M: Meter>(&mut self, lens: &Lens<M>, signatures: &mut Interner) -> Result<(), Memory>
         requires walks { SearchInvariant lens.now signatures.old self.old }
         requires some { 0 < length self.old.frames }
@@ -146,9 +147,9 @@ impl DepthFirstSearch {
         Ok(())
     }
 
-    /// Completes the component at the top of the stack. The argument `root` is the first state of this component on the
-    /// stack. The function interns the signature of the component, marks the states of the component as completed, and
-    /// removes these states from the stack.
+    /// Completes the component at the top of the stack. A component is a strongly connected set of states on the stack,
+    /// and the argument `root` is the first state of this component. The function interns the signature of the
+    /// component, marks the states of the component as completed, and removes these states from the stack.
     fn close(&mut self, root: Root, signatures: &mut Interner) -> Result<(), Memory>
         requires open { AreOpen self.old.stages self.old.stack }
         requires height { root.height ≤ length self.old.stack }

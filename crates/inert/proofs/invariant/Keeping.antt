@@ -1,6 +1,6 @@
--- A move of the search is, for example, the push of a state or the completion of a component. Suppose that a move does
--- not change the states below some index of the stack. These lemmas show that the invariant of the search then still
--- holds for these states after the move. The move may also intern more signatures.
+-- A move of the search is, for example, the push of a state or the completion of a strongly connected component.
+-- Suppose that a move does not change the states below some index of the stack. These lemmas show that the invariant of
+-- the search then still holds for these states after the move. The move may also intern more signatures.
 use Rattle.std.proofs.Common.{◌≡◌, ◌⊎◌, ◌↔◌, ℕ, ◌<◌, ◌≤◌, List, length, slice_index, inl, inr, arith, rules, get_or}
 use Rattle.std.specs.List.{All}
 use Rattle.lts.specs.Lts.{Triple, source_of, place_at}
@@ -14,20 +14,21 @@ use Rattle.inert.specs.Search.{ComponentHasPair, IsToBeRead, IsBeingSearched, Is
 use Rattle.inert.specs.Search.{IsInternedItem, IsRoot, AreRoots, SearchInvariant, OnStack, Completed, Frame, Root, Item}
 use Rattle.inert.specs.Search.{Pair, Interned, VisitState, IsCacheable}
 
--- The stack is divided into components, which collect items: pairs (label ID, block) and signature IDs. A signature ID
--- represents all pairs of the signature with this ID. `AreSound` holds if each item satisfies the following condition
--- (`IsSound`). The signature of some state of the component that has collected the item contains all pairs that the
--- item represents.
+-- The stack is divided into components, which are strongly connected sets of states. Each component collects items:
+-- pairs (label ID, block) and signature IDs. A signature ID represents all pairs of the signature with this ID.
+-- `AreSound` holds if each item satisfies the following condition (`IsSound`). The signature of some state of the
+-- component that has collected the item contains all pairs that the item represents.
 abbrev pub AreSound : Under → List (List (ℕ × ℕ)) → Search → Type 0
 AreSound u signatures w = (j : ℕ) → j < length w.items → IsSound u signatures w j
 
--- The stack is divided into components, which collect items: pairs (label ID, block) and signature IDs. The root of a
--- component is its first state on the stack. `KeepsStack` compares the data of the search before a move (w) and after
--- the move (`new`). It holds under five conditions. First, the move does not change the states below the index n of the
--- stack. Second, if a component of w has a state below the index n, all of its states are below the index n. Third, the
--- move does not change the items that these components have collected. Fourth, each root of `new` is a root of w too,
--- or it is at the index n of the stack or above and the items of its component come after all items of w. Fifth, each
--- state that is completed in w is completed in `new` with the same signature ID.
+-- The stack is divided into components, which are strongly connected sets of states. Each component collects items:
+-- pairs (label ID, block) and signature IDs. The root of a component is its first state on the stack. `KeepsStack`
+-- compares the data of the search before a move (w) and after the move (`new`). It holds under five conditions. First,
+-- the move does not change the states below the index n of the stack. Second, if a component of w has a state below the
+-- index n, all of its states are below the index n. Third, the move does not change the items that these components
+-- have collected. Fourth, each root of `new` is a root of w too, or it is at the index n of the stack or above and the
+-- items of its component come after all items of w. Fifth, each state that is completed in w is completed in `new` with
+-- the same signature ID.
 pub record KeepsStack (w new : Search) (n : ℕ) : Type 0 where
   pub within : n ≤ length w.stack
   pub states : (p : ℕ) → p < n → slice_index new.stack p ≡ slice_index w.stack p
@@ -39,10 +40,11 @@ pub record KeepsStack (w new : Search) (n : ℕ) : Type 0 where
   pub opened : (s p : ℕ) → p < n → stage_at w.stages s ≡ OnStack p → stage_at new.stages s ≡ OnStack p
   pub finished : (s k : ℕ) → stage_at w.stages s ≡ Completed k → stage_at new.stages s ≡ Completed k
 
--- The stack is divided into components, and `AreRoots` states that their roots are in order. The root of a component is
--- its first state on the stack. Suppose that a move changes the frames and the items of the search, but not the roots.
--- A frame records which outgoing transitions of a state on the stack are still to be read, and an item is a pair (label
--- ID, block) or a signature ID. If each root still satisfies `IsRoot` after the move, then `AreRoots` still holds.
+-- A component is a strongly connected set of states on the stack, and its root is its first state on the stack.
+-- `AreRoots` states that the roots of all components are in order. Suppose that a move changes the frames and the items
+-- of the search, but not the roots. A frame records which outgoing transitions of a state on the stack are still to be
+-- read, and an item is a pair (label ID, block) or a signature ID. If each root still satisfies `IsRoot` after the
+-- move, then `AreRoots` still holds.
 pub roots_kept : {w : Search} → AreRoots w → (frames : List Frame) (items : List Item) →
     All (IsRoot frames items) w.roots → AreRoots (record w { frames = frames; items = items })
 roots_kept roots frames items each = record { first = roots.first; ascending = roots.ascending; each = each }
@@ -98,10 +100,10 @@ module _ {u : Under} {signatures lists' : List (List (ℕ × ℕ))} (grow : Grow
   accounted_still p k h low source ahead with_pushed =
       search (rules, keeps.within, walks.accounted, keeps.states, done_still, u.l.places)
 
-  -- The stack is divided into components, which collect items: pairs (label ID, block) and signature IDs. Suppose that
-  -- a move of the search does not change the states below the index n of the stack. Suppose also that an item belongs
-  -- to a component of these states. Then, after the move, the signature of some state of this component still contains
-  -- all pairs that the item represents (`IsSound`).
+  -- The stack is divided into components, which are strongly connected sets of states. Each component collects items:
+  -- pairs (label ID, block) and signature IDs. Suppose that a move of the search does not change the states below the
+  -- index n of the stack. Suppose also that an item belongs to a component of these states. Then, after the move, the
+  -- signature of some state of this component still contains all pairs that the item represents (`IsSound`).
   pub sound_still : (j : ℕ) → j < length w.items → n ≤ length new.stack →
       ((p : ℕ) → p < length w.stack → BelongsTo w.roots j p → p < n) → IsSound u lists' new j
   sound_still j low room below = let (p, lp, of, all) = walks.sound j low in let h = below p lp of in

@@ -56,17 +56,19 @@ module _ {u : Under} {signatures : List (List (ℕ × ℕ))} {w : Search} (walks
       → i ≡ length w.frames - 1 → (frame_at w.frames i).height ≡ p → ¬ ((frame_at w.frames i).next ≤ k)
   none_ahead read p k i lk source low e is ahead = search rules
 
-  -- The root of a component is its first state on the stack. No root is higher on the stack than the current state,
-  -- which is the state whose outgoing transitions are being read.
+  -- A component is a strongly connected set of states on the stack. The root of a component is its first state on the
+  -- stack. No root is higher on the stack than the current state, which is the state whose outgoing transitions are
+  -- being read.
   pub reached : All (λ r. r.height ≤ here w) w.roots
   reached i d h = let (j, low, is) = (walks.roots.each i d h).framed in omega (arith, frames_up j low, is)
 
   pub root_low : All (λ r. r.height < length w.stack) w.roots
   root_low i d h = search rules
 
-  -- The root of a component is its first state on the stack, and the last component is at the top of the stack. No root
-  -- is higher on the stack than the root of the last component. No component has items, which are pairs (label ID,
-  -- block) and signature IDs, that begin at a greater index of the list of items than the items of the last component.
+  -- A component is a strongly connected set of states on the stack. The root of a component is its first state on the
+  -- stack, and the last component is at the top of the stack. No root is higher on the stack than the root of the last
+  -- component. No component has items, which are pairs (label ID, block) and signature IDs, that begin at a greater
+  -- index of the list of items than the items of the last component.
   pub last_most : All (λ r. (r.height ≤ (last w.roots).height) × (r.items ≤ (last w.roots).items)) w.roots
   last_most i d h = grind (arith, walks.roots.ascending i (length w.roots - 1) d, get_or_default)
 

@@ -47,9 +47,9 @@ module _ {u : Under} {signatures : List (List (ℕ × ℕ))} {w : Search} (walks
     collect_keeps : KeepsStack w With (length w.stack)
     collect_keeps = grind (arith, common_steps)
 
-    -- The current state is the state whose outgoing transitions are being read. Let an item, which is a pair (label ID,
-    -- block) or a signature ID, be appended to the list of items. Then this item belongs to the component that contains
-    -- the current state.
+    -- A component is a strongly connected set of states on the stack. The current state is the state whose outgoing
+    -- transitions are being read. Let an item, which is a pair (label ID, block) or a signature ID, be appended to the
+    -- list of items. Then this item belongs to the component that contains the current state.
     of_here : BelongsTo w.roots (length w.items) (here w)
     of_here i d h = grind (arith, common_steps, walks.roots.each, reached)
 
@@ -72,17 +72,19 @@ module _ {u : Under} {signatures : List (List (ℕ × ℕ))} {w : Search} (walks
         accounted_still grow walks collect_keeps p k lp lk source (λ ahead. inl ahead) (λ t e. inr (inr e)) in
         search (rules, walks, roots, theirs, sounds, accounted)
 
-  -- The current state is the state whose outgoing transitions are being read. The root of a component is its first
-  -- state on the stack. These lemmas assume that an inert step leads from the current state to the state at the index q
-  -- of the stack. They also assume that all components from the component of this state up to the top of the stack are
-  -- merged, so that all roots above the index q are dropped.
+  -- The current state is the state whose outgoing transitions are being read. A component is a strongly connected set
+  -- of states on the stack. The root of a component is its first state on the stack. These lemmas assume that an inert
+  -- step leads from the current state to the state at the index q of the stack. They also assume that all components
+  -- from the component of this state up to the top of the stack are merged, so that all roots above the index q are
+  -- dropped.
   module _ (laws : Laws) {q : ℕ} {roots : List Root} (cuts : CutsRoots q w.roots roots) where
     cut_each : (P : Root → Type 0) → All P w.roots → All P roots
     cut_each P each = rw cuts.roots (All-take P cuts.count w.roots each)
 
-    -- The root of a component is its first state on the stack. A merge of components drops all roots above the index q
-    -- of the stack. If a property P holds for all roots that remain after the merge, and for all roots above the index
-    -- q, then P holds for all roots of the search before the merge.
+    -- A component is a strongly connected set of states on the stack. The root of a component is its first state on the
+    -- stack. A merge of components drops all roots above the index q of the stack. If a property P holds for all roots
+    -- that remain after the merge, and for all roots above the index q, then P holds for all roots of the search before
+    -- the merge.
     cut_back : (P : Root → Type 0) → All P roots → ((r : Root) → q < r.height → P r) → All P w.roots
     cut_back P each above =
         All-from_take P cuts.count w.roots no_root (rw cuts.roots at each) (λ i up low. above _ (cuts.above i up low))
@@ -93,16 +95,18 @@ module _ {u : Under} {signatures : List (List (ℕ × ℕ))} {w : Search} (walks
     join_keeps : KeepsStack w Joined (length w.stack)
     join_keeps = grind (arith, common_steps, cuts.roots)
 
-    -- A root is the first state of a component on the stack. Suppose that all components from the component of the
-    -- state at the index q of the stack up to the top of the stack are merged. Then no root is above the index q.
+    -- A component is a strongly connected set of states on the stack. A root is the first state of a component on the
+    -- stack. Suppose that all components from the component of the state at the index q of the stack up to the top of
+    -- the stack are merged. Then no root is above the index q.
     below : All (λ r. r.height ≤ q) roots
     below i d h =
         let root = get_or_default w.roots (cuts.count - 1) d no_root in
         grind (arith, elements, cuts.below, cuts.roots, walks.roots.ascending i (cuts.count - 1), root)
 
-    -- The current state is the state whose outgoing transitions are being read. Suppose that an inert step leads from
-    -- the current state to a state t on the stack, and that the components from the component of t up to the top of the
-    -- stack are merged. Then t and the current state are in the same component.
+    -- A component is a strongly connected set of states on the stack. The current state is the state whose outgoing
+    -- transitions are being read. Suppose that an inert step leads from the current state to a state t on the stack,
+    -- and that the components from the component of t up to the top of the stack are merged. Then t and the current
+    -- state are in the same component.
     pub joined_here : (t : ℕ) → stage_at w.stages t ≡ OnStack q → IsInComponent Joined (here w) t
     joined_here t is =
         (q, is, λ i d h _. below i d h, λ i d h _. cut_each (λ r. r.height ≤ here w) (reached walks) i d h)
