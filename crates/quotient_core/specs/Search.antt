@@ -38,8 +38,9 @@ pub record Searches (g : Grouped) (marked : List Bool) (next : ℕ) (waiting : L
   pub followed : (s t : ℕ) (a : List ℕ) → s < next → IsMarked marked s → Step (system_of g) s a t →
       Contains waiting s ⊎ IsMarked marked t
 
--- `places_ahead` is the number of transitions that the search may still read. These transitions are the transitions of
--- the states for which `is_ahead` is true, and the transitions of the states in the queue.
+-- `places_ahead` is the number of transitions that the search may still read. The search scans the states in ascending
+-- order. It may still read the transitions of each state that the scan has not yet passed or that is not marked
+-- (`is_ahead`), and the transitions of the states in the queue.
 abbrev pub places_ahead : List Triple → ℕ → List Bool → List ℕ → ℕ
 places_ahead places next marked waiting =
     length (filter (λ e. is_ahead next marked (source_of e)) places) + sum_by (λ s. length (row_of s places)) waiting

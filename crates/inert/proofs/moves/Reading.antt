@@ -162,7 +162,7 @@ pub record Stays (old new : Search) : Type 0 where
 -- The last frame of the search records which outgoing transitions of the current state are still to be read. `Marked`
 -- holds if the search has gone from `old` to `new` by reading the transitions that the last frame of `old` records, up
 -- to and including the transition at the place (index) k. If the flag `enters` is false, no state was pushed (`Stays`).
--- If the flag `enters` is true, a state was pushed, so that the search has made progress (`steps`).
+-- If the flag `enters` is true, the upper bound `steps` for the steps that the search still has to make has decreased.
 pub record Marked (u : Under) (signatures : List (List (ℕ × ℕ))) (old new : Search) (k : ℕ) (enters : Bool) : Type 0
   where
     pub reads : Reads u signatures old new (k + 1)
