@@ -1,8 +1,8 @@
 -- Defines the data and the invariant of the depth-first search along inert transitions. The stack of the search is
--- divided into components: sets of states that inert transitions connect in both directions. The root of a component is
--- its first state on the stack, and the height of a state is its index on the stack. Each component collects items, and
--- an item is a pair (label ID, block) or the ID of a signature. A frame has the outgoing transitions of a state on the
--- stack that are still to be read.
+-- divided into components. A component is a set of states that inert transitions connect in both directions. The root
+-- of a component is its first state on the stack. The height of a state is its index on the stack. Each component
+-- collects items. An item is a pair (label ID, block) or the ID of a signature. Each frame belongs to a state on the
+-- stack, and records which outgoing transitions of this state are still to be read.
 use Rattle.std.specs.Prelude.{◌≡◌, ◌⊎◌, ℕ, ◌+◌, ◌-◌, ◌<◌, ◌≤◌, ◌==◌, Bool, true, false, cond, List, [], length, map}
 use Rattle.std.specs.Prelude.{slice_index, slice_index_or}
 use Rattle.std.specs.List.{All, AllPairs, Contains, filter, sum_by, count_by}
@@ -24,14 +24,17 @@ pub use Rattle.inert.specs.declared.item.Item.{Item}
 pub use Rattle.inert.specs.declared.item.Item.TheVariants.{Pair, Interned}
 
 -- An item is a pair (label ID, block) or a signature ID, and is stored as two numbers. Returns the item that is stored
--- as the numbers a and b. If a is `INTERNED`, the item is the signature ID b. Otherwise the item is the pair (a, b).
+-- as the numbers a and b. If a is the constant `INTERNED`, which is not the ID of a label, the item is the signature ID
+-- b. Otherwise the item is the pair (a, b).
 abbrev pub item_of : ℕ → ℕ → Item
 item_of a b = cond (a == INTERNED) (Interned b) (Pair a b)
 
--- The data of the search. The list `stages` has the status of each state: unvisited, on the stack, or completed. Each
--- frame has the outgoing transitions of a state on the stack that are still to be read. The stack is divided into
--- components, and there is a root for each component, which is its first state on the stack. The items are the pairs
--- (label ID, block) and the signature IDs that the components have collected.
+-- `Search` has the data of a depth-first search along inert transitions. The list `stages` has the status of each
+-- state: unvisited, on the stack, or completed. Each frame belongs to a state on the stack, and records which outgoing
+-- transitions of this state are still to be read. The stack is divided into components, which are sets of states that
+-- inert transitions connect in both directions. For each component, the list `roots` has the root of the component,
+-- which is its first state on the stack. The list `items` has the pairs (label ID, block) and the signature IDs that
+-- the components have collected.
 pub record Search : Type 0 where
   pub stages : List VisitState
   pub stack : List ℕ
@@ -39,13 +42,13 @@ pub record Search : Type 0 where
   pub roots : List Root
   pub items : List Item
 
--- Returns the data of a search that is not in progress. Each state has the given status (`stages`), and the stack and
--- all other lists of the search are empty.
+-- Returns the data of the search while no search is in progress. The argument `stages` has the status of each state.
+-- The stack and all other lists of the result are empty.
 abbrev pub nothing : List VisitState → Search
 nothing stages = record { stages = stages; stack = []; frames = []; roots = []; items = [] }
 
--- Returns the status of the state s: unvisited, on the stack, or completed. If s is not a state, the result is
--- `Unvisited`.
+-- Returns the status of the state s in the list `stages`: unvisited, on the stack, or completed. If the list has no
+-- entry for s, the result is `Unvisited`.
 abbrev pub stage_at : List VisitState → ℕ → VisitState
 stage_at stages s = slice_index_or stages s Unvisited
 
@@ -74,22 +77,23 @@ unseen stages = count_by is_unvisited stages
 abbrev pub unread : List Triple → List VisitState → ℕ
 unread places stages = length (filter (λ e. is_unvisited (stage_at stages (source_of e))) places)
 
--- A frame has the outgoing transitions of a state that are still to be read. Returns the number of visits (counted
--- reads) that are needed to read the transitions of all frames. Reading a transition needs no visit if its place
--- (index) is in the list `visited`.
+-- Each frame belongs to a state on the stack, and records which outgoing transitions of this state are still to be
+-- read. Returns the number of visits (counted reads) that are needed to read these transitions for all frames. A
+-- transition is read without a visit if its place, which is its index in the list of all transitions, is in the list
+-- `visited`.
 abbrev pub rest : List ℕ → List Frame → ℕ
 rest visited frames = sum_by (λ x. price_between visited x.next x.end) frames
 
--- `KeepsVisited` holds if each state that is visited according to the statuses `old` is also visited according to the
--- statuses `new`. Moreover, each state that is completed in `old` must be completed in `new` with the same signature
--- ID.
+-- `KeepsVisited` compares the statuses of all states at two points `old` and `new` of the search. It holds under two
+-- conditions. First, each state that is unvisited at the point `new` is also unvisited at the point `old`. Second, each
+-- state that is completed at the point `old` is completed at the point `new` with the same signature ID.
 pub record KeepsVisited (old new : List VisitState) : Type 0 where
   pub unseen : (s : ℕ) → stage_at new s ≡ Unvisited → stage_at old s ≡ Unvisited
   pub finished : (s k : ℕ) → stage_at old s ≡ Completed k → stage_at new s ≡ Completed k
 
--- `HasVisitStates` holds if `stages` has a status for each of the `states` states, and if there is at least one
--- interned signature. Moreover, the number of unvisited states plus the number `stack` of states on the stack must be
--- at most `states`.
+-- `HasVisitStates` holds under three conditions. First, the list `stages` has a status for each of the `states` states
+-- of the system. Second, the number `signatures` of interned signatures is at least 1. Third, the number of unvisited
+-- states plus the number `stack` of states on the stack is at most `states`.
 pub record HasVisitStates (states signatures stack : ℕ) (stages : List VisitState) : Type 0 where
   pub size : length stages ≡ states
   pub some : 1 ≤ signatures
@@ -99,42 +103,47 @@ pub record HasVisitStates (states signatures stack : ℕ) (stages : List VisitSt
 abbrev pub IsFinished : List VisitState → ℕ → Type 0
 IsFinished stages s = (k : ℕ) × (stage_at stages s ≡ Completed k)
 
--- `HasEnded` holds if no search is in progress and all states are completed.
+-- `HasEnded` is about the data w of the search. It holds if no search is in progress and all states are completed.
 pub record HasEnded (w : Search) : Type 0 where
   pub empty : w ≡ nothing w.stages
   pub all : (s : ℕ) → s < length w.stages → IsFinished w.stages s
 
--- `AreMarkedUnvisited` holds if no search is in progress and each active state (each state that the round processes) is
--- unvisited. Every other state must have the same status as in the list `old`.
+-- `AreMarkedUnvisited` is about the data w of the search. It holds under three conditions. First, no search is in
+-- progress. Second, each active state, which is a state that the round processes, is unvisited. Third, every other
+-- state has the same status as in the list `old`.
 pub record AreMarkedUnvisited (old : List VisitState) (active : List ℕ) (w : Search) : Type 0 where
   pub empty : w ≡ nothing w.stages
   pub size : length w.stages ≡ length old
   pub unvisited : (i : ℕ) → i < length active → stage_at w.stages (slice_index active i) ≡ Unvisited
   pub others : (s : ℕ) → IsMember active s ⊎ (stage_at w.stages s ≡ stage_at old s)
 
--- A frame has the outgoing transitions of a state on the stack that are still to be read. Returns the frame at the
--- index i of the list of frames. If there is no frame at this index, all fields of the result are 0.
+-- Each frame belongs to a state on the stack, and records which outgoing transitions of this state are still to be
+-- read. Returns the frame at the index i of the list `frames`. If there is no frame at this index, all fields of the
+-- result are 0.
 abbrev pub frame_at : List Frame → ℕ → Frame
 frame_at frames i = slice_index_or frames i (record { height = 0; next = 0; end = 0 })
 
--- A frame has the outgoing transitions of a state on the stack that are still to be read. Returns the last frame of the
--- list. The state of the last frame is the current state of the search.
+-- Each frame belongs to a state on the stack, and records which outgoing transitions of this state are still to be
+-- read. Returns the last frame of the list `frames`. The state to which the last frame belongs is the current state of
+-- the search. If the list is empty, all fields of the result are 0.
 abbrev pub top : List Frame → Frame
 top frames = frame_at frames (length frames - 1)
 
--- The stack is divided into components, and the root of a component is its first state on the stack. Returns the root
--- at the index i of the list of roots. If there is no root at this index, both fields of the result are 0.
+-- The stack is divided into components, which are sets of states that inert transitions connect in both directions. The
+-- root of a component is its first state on the stack. Returns the root at the index i of the list `roots`. If there is
+-- no root at this index, both fields of the result are 0.
 abbrev pub root_at : List Root → ℕ → Root
 root_at roots i = slice_index_or roots i (record { height = 0; items = 0 })
 
--- An item is a pair (label ID, block) or a signature ID. Returns the item at the index j of the list of items. If there
+-- An item is a pair (label ID, block) or a signature ID. Returns the item at the index j of the list `items`. If there
 -- is no item at this index, the result is the pair (0, 0).
 abbrev pub item_at : List Item → ℕ → Item
 item_at items j = slice_index_or items j (Pair 0 0)
 
--- `Laws` states four properties of paths of inert steps in a system A whose states are divided into blocks. A path may
--- be empty (`here`), may be extended by one step (`after`), and may be joined to another path (`joined`). If a path
--- leads from the state s to the state t, the signature of s contains each pair of the signature of t (`path`).
+-- `Laws` states four laws about paths of inert steps in a system A whose states are divided into blocks. First, the
+-- empty path leads from each state to itself (`here`). Second, a path that is followed by an inert step is a path
+-- (`after`). Third, a path that is followed by another path is a path (`joined`). Fourth, if a path leads from the
+-- state s to the state t, the signature of s contains each pair of the signature of t (`path`).
 pub record Laws : Type 0 where
   pub here : (A : System) (blocks : ℕ → ℕ) (s : ℕ) → Leads (Inert A blocks) s s
   pub after : (A : System) (blocks : ℕ → ℕ) (s t u : ℕ) → Leads (Inert A blocks) s t → Inert A blocks t u →
@@ -148,32 +157,35 @@ pub record Laws : Type 0 where
 abbrev pub LeadsInertly : Under → ℕ → ℕ → Type 0
 LeadsInertly u s t = Leads (Inert (system_of u.l) (slice_index u.blocks)) s t
 
--- The stack is divided into components, and the root of a component is its first state on the stack. Let the state at
--- the index p of the stack belong to some component. `IsNotBelow` holds if the index q is not less than the index of
--- the root of this component.
+-- The stack is divided into components, which are strongly connected sets of adjacent states. Consider the component
+-- that contains the state at the index p of the stack. `IsNotBelow` holds if the index q is at least the index of the
+-- first state of this component.
 abbrev pub IsNotBelow : List Root → ℕ → ℕ → Type 0
 IsNotBelow roots p q = All (λ r. r.height ≤ p → r.height ≤ q) roots
 
--- The stack is divided into components, which collect items: pairs (label ID, block) and signature IDs. `BelongsTo`
--- holds if the item at the index j was collected by the component of the state at the index p of the stack.
+-- The stack is divided into components, which are strongly connected sets of states. Each component collects items:
+-- pairs (label ID, block) and signature IDs. Consider the component that contains the state at the index p of the
+-- stack. `BelongsTo` holds if this component has collected the item at the index j of the list of items.
 abbrev pub BelongsTo : List Root → ℕ → ℕ → Type 0
 BelongsTo roots j p = All (λ r. (r.height ≤ p → r.items ≤ j) × (p < r.height → j < r.items)) roots
 
--- An item is a pair (label ID, block) or a signature ID. `GivesPair` holds if the item represents the pair z. This is
--- the case if the item is z itself, or if it is the ID of a signature that contains z.
+-- An item is a pair (label ID, block) or a signature ID. `GivesPair` holds if the given item represents the pair z.
+-- There are two cases. In the first case, the item is the pair z itself. In the second case, the item is the ID of a
+-- signature that contains z.
 abbrev pub GivesPair : List (List (ℕ × ℕ)) → Item → ℕ × ℕ → Type 0
 GivesPair signatures (Pair a b) z = (a, b) ≡ z
 GivesPair signatures (Interned k) z = Contains (list_at signatures k) z
 
--- The stack is divided into components, which collect items: pairs (label ID, block) and signature IDs. A signature ID
--- represents all pairs of its signature. `ComponentHasPair` holds if the component of the state at the index p of the
--- stack has collected an item that represents the pair z.
+-- The stack is divided into components, which are strongly connected sets of states. Each component collects items:
+-- pairs (label ID, block) and signature IDs. A signature ID represents all pairs of the signature with this ID.
+-- Consider the component that contains the state at the index p of the stack. `ComponentHasPair` holds if this
+-- component has collected an item that represents the pair z.
 abbrev pub ComponentHasPair : List (List (ℕ × ℕ)) → Search → ℕ → ℕ × ℕ → Type 0
 ComponentHasPair signatures w p z = (j : ℕ) × (j < length w.items) × GivesPair signatures (item_at w.items j) z
     × BelongsTo w.roots j p
 
--- `AreOpen` holds if each state on the stack has the status `OnStack` with its index on the stack, and no other state
--- has the status `OnStack`.
+-- `AreOpen` holds under two conditions. First, each state on the stack has the status `OnStack` with the index of this
+-- state on the stack. Second, no other state has the status `OnStack`.
 pub record AreOpen (stages : List VisitState) (stack : List ℕ) : Type 0 where
   pub placed : (p : ℕ) → p < length stack → stage_at stages (slice_index stack p) ≡ OnStack p
   pub only : (s p : ℕ) → stage_at stages s ≡ OnStack p → (p < length stack) × (slice_index stack p ≡ s)
@@ -183,39 +195,45 @@ pub record IsSigned (u : Under) (s : ℕ) (signatures : List (List (ℕ × ℕ))
   pub within : k < length signatures
   pub signature : IsSignature Branching u.l u.blocks s (list_at signatures k)
 
--- `IsCacheable` holds if k is the ID of an interned signature that may be cached for the state s. This is the case if
--- the signature is the signature of s, or if all states in the block of s are completed.
+-- `IsCacheable` holds if k is the ID of an interned signature that may be cached for the state s. There are two cases
+-- in which this signature may be cached. In the first case, it is the branching signature of s. In the second case, all
+-- states in the block of s are completed.
 pub record IsCacheable (u : Under) (s : ℕ) (signatures : List (List (ℕ × ℕ))) (stages : List VisitState) (k : ℕ) : Type
     0 where
   pub within : k < length signatures
   pub signature : (t : ℕ) → t < u.l.states → slice_index u.blocks t ≡ slice_index u.blocks s →
       IsFinished stages t ⊎ IsSignature Branching u.l u.blocks s (list_at signatures k)
 
--- `AreCacheable` holds if, for each completed state, the cached signature is the signature of the state, or all states
--- in the block of the state are completed (`IsCacheable`).
+-- `AreCacheable` holds if each completed state s satisfies one of two conditions (`IsCacheable`). Either the cached
+-- signature of s is the branching signature of s, or all states in the block of s are completed.
 abbrev pub AreCacheable : Under → List (List (ℕ × ℕ)) → List VisitState → Type 0
 AreCacheable u signatures stages = (s k : ℕ) → stage_at stages s ≡ Completed k → IsCacheable u s signatures stages k
 
--- The stack is divided into components, which collect items: pairs (label ID, block) and signature IDs. The root of a
--- component is its first state on the stack, and has the index at which the items of the component begin. `IsRoot`
--- holds if the root r has a frame (the search has not yet gone back from this state), and if this index is at most the
--- number of all items.
+-- The stack is divided into components, which are strongly connected sets of states. Each component collects items:
+-- pairs (label ID, block) and signature IDs. A value of type `Root` belongs to a component. It has the index of the
+-- first state of the component on the stack, and the index at which the items of the component begin in the list of all
+-- items. `IsRoot` holds under two conditions. First, the first state of the component has a frame, which means that the
+-- search has not yet gone back from this state. Second, the index at which the items begin is at most the number of all
+-- items.
 pub record IsRoot (frames : List Frame) (items : List Item) (r : Root) : Type 0 where
   pub framed : (i : ℕ) × (i < length frames) × ((frame_at frames i).height ≡ r.height)
   pub within : r.items ≤ length items
 
--- The stack is divided into components, which collect items: pairs (label ID, block) and signature IDs. The root of a
--- component is its first state on the stack, and has the index at which the items of the component begin. `AreRoots`
--- holds if the first component begins at the bottom of the stack, and if the roots are in ascending order of their
--- indices on the stack. The indices at which the items of their components begin must also be in ascending order.
+-- The stack is divided into components, which are strongly connected sets of states. Each component collects items:
+-- pairs (label ID, block) and signature IDs. A value of type `Root` belongs to a component. It has the index of the
+-- first state of the component on the stack, and the index at which the items of the component begin in the list of all
+-- items. `AreRoots` holds under three conditions. First, if the stack is not empty, some component begins at the index
+-- 0 of the stack. Second, the roots are in ascending order of both of their indices, and no two components begin at the
+-- same state. Third, each root satisfies `IsRoot`.
 pub record AreRoots (w : Search) : Type 0 where
   pub first : 0 < length w.stack → ¬ All (λ r. 0 < r.height) w.roots
   pub ascending : AllPairs (λ x y. (x.height < y.height) × (x.items ≤ y.items)) w.roots
   pub each : All (IsRoot w.frames w.items) w.roots
 
--- A frame has the outgoing transitions of a state that are still to be read. `IsFrame` holds if the state of the frame
--- x is on the stack, and if the transitions of x are the last part of the row of this state (all its outgoing
--- transitions). The transitions of x are at the places (indices) from `next` up to but excluding `end`.
+-- A frame belongs to a state, and records which outgoing transitions of this state are still to be read. These
+-- transitions are at the places (indices in the list of all transitions) from `next` up to but excluding `end`.
+-- `IsFrame` holds under two conditions. First, the state of the frame x is on the stack. Second, the transitions that
+-- the frame x records are the last part, which may be empty, of all outgoing transitions of this state.
 pub record IsFrame (l : Grouped) (stack : List ℕ) (x : Frame) : Type 0 where
   pub on_stack : x.height < length stack
   pub start : ℕ
@@ -223,23 +241,25 @@ pub record IsFrame (l : Grouped) (stack : List ℕ) (x : Frame) : Type 0 where
   pub first : start ≤ x.next
   pub most : x.next ≤ x.end
 
--- A frame has the outgoing transitions of a state on the stack that are still to be read. `AreFrames` holds if each
--- frame has transitions of a state on the stack (`IsFrame`), and if the states of the frames are in ascending order of
--- their indices on the stack.
+-- Each frame belongs to a state on the stack, and records which outgoing transitions of this state are still to be
+-- read. `AreFrames` holds under two conditions. First, the frames are in ascending order of the indices of their states
+-- on the stack. Second, each frame satisfies `IsFrame`, so that the transitions that it records are the last part of
+-- all outgoing transitions of its state.
 pub record AreFrames (l : Grouped) (stack : List ℕ) (frames : List Frame) : Type 0 where
   pub ascending : AllPairs (λ x y. x.height < y.height) frames
   pub each : All (IsFrame l stack) frames
 
--- The stack is divided into components, each of which consists of adjacent states. `Connects` holds if, from each state
--- on the stack, paths of inert steps lead to all states of the same component and to all states that are higher on the
--- stack.
+-- The stack is divided into components, which are strongly connected sets of adjacent states. `Connects` holds if paths
+-- of inert steps lead from each state on the stack to all states of its component and to all states that are higher on
+-- the stack.
 abbrev pub Connects : Under → Search → Type 0
 Connects u w = (p q : ℕ) → p < length w.stack → q < length w.stack → IsNotBelow w.roots p q →
     LeadsInertly u (slice_index w.stack p) (slice_index w.stack q)
 
--- The stack is divided into components, which collect items: pairs (label ID, block) and signature IDs. A signature ID
--- represents all pairs of its signature. `IsSound` holds if each pair that the item at the index j represents is in the
--- signature of some state of the component that has collected the item.
+-- The stack is divided into components, which are strongly connected sets of states. Each component collects items:
+-- pairs (label ID, block) and signature IDs. A signature ID represents all pairs of the signature with this ID.
+-- Consider the component that has collected the item at the index j of the list of items. `IsSound` holds if the
+-- signature of some state of this component contains all pairs that the item represents.
 abbrev pub IsSound : Under → List (List (ℕ × ℕ)) → Search → ℕ → Type 0
 IsSound u signatures w j = (p : ℕ) × (p < length w.stack) × BelongsTo w.roots j p ×
     ((z : ℕ × ℕ) → GivesPair signatures (item_at w.items j) z
@@ -255,21 +275,24 @@ IsInternedItem signatures x = (k : ℕ) → x ≡ Interned k → k < length sign
 abbrev pub AreInternedItems : List (List (ℕ × ℕ)) → List Item → Type 0
 AreInternedItems signatures = All (IsInternedItem signatures)
 
--- A place is an index in the list of all transitions, and a frame has the transitions of a state that are still to be
--- read. Let the transition at the place k belong to the state at the index p of the stack. `IsToBeRead` holds if this
--- state has a frame, and this frame has the transition at the place k.
+-- A place is an index in the list of all transitions. Each frame belongs to a state on the stack, and records which
+-- outgoing transitions of this state are still to be read. Let the transition at the place k be an outgoing transition
+-- of the state at the index p of the stack. `IsToBeRead` holds if this state has a frame, and the transition at the
+-- place k is still to be read according to this frame.
 abbrev pub IsToBeRead : Search → ℕ → ℕ → Type 0
 IsToBeRead w p k = (i : ℕ) × (i < length w.frames) × ((frame_at w.frames i).height ≡ p)
     × ((frame_at w.frames i).next ≤ k)
 
--- The stack is divided into components, which are parts whose states reach each other by inert steps. `IsInComponent`
--- holds if the state t is on the stack, and in the same component as the state at the index p of the stack.
+-- The stack is divided into components, which are sets of states that inert transitions connect in both directions.
+-- `IsInComponent` holds if the state t is on the stack, and is in the same component as the state at the index p of the
+-- stack.
 abbrev pub IsInComponent : Search → ℕ → ℕ → Type 0
 IsInComponent w p t = (q : ℕ) × (stage_at w.stages t ≡ OnStack q) × IsNotBelow w.roots p q × IsNotBelow w.roots q p
 
--- The stack is divided into components, which collect items: pairs (label ID, block) and signature IDs. `IsCollected`
--- holds if the state t is completed, and the items of the component of the state at the index p of the stack represent
--- all pairs of the cached signature of t.
+-- The stack is divided into components, which are strongly connected sets of states. Each component collects items:
+-- pairs (label ID, block) and signature IDs. A signature ID represents all pairs of the signature with this ID.
+-- Consider the component that contains the state at the index p of the stack. `IsCollected` holds if the state t is
+-- completed, and the items of this component represent all pairs of the cached signature of t.
 abbrev pub IsCollected : List (List (ℕ × ℕ)) → Search → ℕ → ℕ → Type 0
 IsCollected signatures w p t =
     (k : ℕ) × (stage_at w.stages t ≡ Completed k)
@@ -281,15 +304,20 @@ abbrev pub IsBeingSearched : Search → ℕ → ℕ → Type 0
 IsBeingSearched w p t = (i : ℕ) × (i + 1 < length w.frames) × ((frame_at w.frames i).height ≡ p)
     × (slice_index w.stack (frame_at w.frames (i + 1)).height ≡ t)
 
+-- The stack is divided into components, which are sets of states that inert transitions connect in both directions.
 -- `IsFollowed` holds if the search has followed an inert step from the state at the index p of the stack to the state
--- t. There are three cases. The state t is in the same component of the stack as the state at the index p, or t is
--- completed and the pairs of its signature were collected, or the search has not yet returned from t.
+-- t. There are three cases. In the first case, t is on the stack, in the same component as the state at the index p. In
+-- the second case, t is completed, and the component of the state at the index p has collected all pairs of the cached
+-- signature of t. In the third case, the search went from the state at the index p to t and has not yet returned from
+-- t.
 abbrev pub IsFollowed : List (List (ℕ × ℕ)) → Search → ℕ → ℕ → Type 0
 IsFollowed signatures w p t = IsInComponent w p t ⊎ IsCollected signatures w p t ⊎ IsBeingSearched w p t
 
--- `IsHandled` holds if the search has processed the transition e of the state at the index p of the stack. If e is
--- inert, the search has followed e to its target. If e is not inert, the component of the state at the index p has
--- collected the pair (label ID, target block) of e.
+-- The stack is divided into components, which are sets of states that inert transitions connect in both directions.
+-- `IsHandled` holds if the search has processed the transition e of the state at the index p of the stack. There are
+-- two cases. In the first case, e is inert, and the search has followed e to its target (`IsFollowed`). In the second
+-- case, e is not inert, and the component of the state at the index p has collected the pair (label ID, target block)
+-- of e.
 pub record IsHandled (u : Under) (signatures : List (List (ℕ × ℕ))) (w : Search) (p : ℕ) (e : Triple) : Type 0 where
   pub shown : ¬ IsInert u (slice_index u.blocks (source_of e)) e
       → ComponentHasPair signatures w p (pair_under u.blocks e)
@@ -302,8 +330,8 @@ AreHandled u signatures w =
     (p k : ℕ) → p < length w.stack → k < length u.l.places → source_of (place_at u.l.places k) ≡ slice_index w.stack p →
     IsToBeRead w p k ⊎ IsHandled u signatures w p (place_at u.l.places k)
 
--- `SearchInvariant` is the invariant of the search. It holds before and after each move: after the search has processed
--- a transition, and after it has gone back from a state whose transitions were all read.
+-- `SearchInvariant` is the invariant of the depth-first search. It holds before and after each move of the search. In a
+-- move, the search processes a transition, or goes back from a state whose outgoing transitions were all read.
 pub record SearchInvariant (u : Under) (signatures : List (List (ℕ × ℕ))) (w : Search) : Type 0 where
   pub sizes : HasVisitStates u.l.states (length signatures) (length w.stack) w.stages
   pub opened : AreOpen w.stages w.stack

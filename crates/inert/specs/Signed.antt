@@ -16,8 +16,8 @@ abbrev pub HasPair : Relation → Grouped → List ℕ → ℕ → ℕ → ℕ �
 HasPair rel l blocks s k b =
     (k < length l.labels) × Signature rel (system_of l) (slice_index blocks) s (text_of l.labels k) b
 
--- `IsSignature` holds if the list `pairs` contains exactly the pairs of the signature of the state s. The pairs must be
--- in ascending order, and each pair must occur once.
+-- `IsSignature` holds under two conditions. First, the list `pairs` contains exactly the pairs (label ID, block) of the
+-- signature of the state s. Second, the pairs are in ascending order, and each pair occurs only once.
 pub record IsSignature (rel : Relation) (l : Grouped) (blocks : List ℕ) (s : ℕ) (pairs : List (ℕ × ℕ)) : Type 0 where
   pub exactly : (k b : ℕ) → Contains pairs (k, b) ↔ HasPair rel l blocks s k b
   pub ascending : IsStrictlySortedBy pair_cmp pairs
@@ -26,9 +26,10 @@ pub record IsSignature (rel : Relation) (l : Grouped) (blocks : List ℕ) (s : �
 abbrev pub pair_under : List ℕ → Triple → ℕ × ℕ
 pair_under blocks e = (label_of e, slice_index blocks (target_of e))
 
--- The active states are the states that the round processes. `CachesBeside` holds if `cached` has the ID of an interned
--- signature for each state. For each state that is not active but shares a block with an active state, this signature
--- must be the signature of the state.
+-- The active states are the states that the round processes. `CachesBeside` holds under two conditions. First, the list
+-- `cached` has the ID of an interned signature for each state. Second, consider a state that is not active but shares a
+-- block with an active state. The signature with the ID that `cached` has for this state is the branching signature of
+-- the state.
 pub record CachesBeside (l : Grouped) (blocks active : List ℕ) (signatures : List (List (ℕ × ℕ))) (cached : List ℕ) :
     Type 0 where
   pub states : length cached ≡ l.states
@@ -36,18 +37,20 @@ pub record CachesBeside (l : Grouped) (blocks active : List ℕ) (signatures : L
   pub beside : (s t : ℕ) → s < l.states → t < l.states → slice_index blocks s ≡ slice_index blocks t → IsMember active t
       → IsMember active s ⊎ IsSignature Branching l blocks s (list_at signatures (slice_index cached s))
 
--- `IsIdIfChanged` holds if `shown` is the ID that is used to split the block of a state whose signature ID was `old`
--- and is now `new`. If `old` equals `new`, then `shown` is 0. Otherwise, `shown` is `new`.
+-- Suppose that the signature ID of a state was `old` and is now `new`. `IsIdIfChanged` holds if `shown` is the ID that
+-- is used to split the block of this state. If `old` equals `new`, this ID is 0. Otherwise, this ID is `new`.
 abbrev pub IsIdIfChanged : ℕ → ℕ → ℕ → Type 0
 IsIdIfChanged old new shown = ((old ≡ new) × (shown ≡ 0)) ⊎ (¬ (old ≡ new) × (shown ≡ new))
 
--- `SignsActive` holds if the round has computed the signatures of its active states, which are the states that it
--- processes. The list of interned signatures was `before` and is now `signatures`. The list of the cached IDs of all
--- states was `old` and is now `cached`. Each signature in `before` must have the same ID in `signatures`. All cached
--- IDs, and all IDs in `signature_ids`, must be IDs of interned signatures. The signature of each active state must be
--- interned, and its ID must be cached. The cached ID of every other state must be the same as before. The blocks are
--- split by the IDs in `signature_ids`. For each active state whose signature ID has changed, `signature_ids` must have
--- the new ID. For each other active state, `signature_ids` must have the ID of the empty signature (`IsIdIfChanged`).
+-- `SignsActive` is about a round that computes the signatures of its active states, which are the states that it
+-- processes. The list of interned signatures is `before` at the beginning of the computation and `signatures` at the
+-- end. The list of the cached signature IDs of all states is `old` at the beginning and `cached` at the end. The list
+-- `signature_ids` has the IDs that are used to split the blocks. `SignsActive` holds under five conditions. First, each
+-- signature in `before` has the same ID in `signatures`. Second, all IDs in `cached` and in `signature_ids` are IDs of
+-- interned signatures. Third, for each active state, `cached` has the ID of the branching signature of this state.
+-- Fourth, for every other state, `cached` has the same ID as `old`. Fifth, consider the entry of an active state in
+-- `signature_ids`. If the cached ID of this state has changed, the entry is the new ID. Otherwise, the entry is the ID
+-- of the empty signature (`IsIdIfChanged`).
 pub record SignsActive (l : Grouped) (blocks active : List ℕ) (before signatures : List (List (ℕ × ℕ)))
     (old cached signature_ids : List ℕ) : Type 0 where
   pub grow : Grow before signatures

@@ -1,5 +1,6 @@
-//! Computes the signature of a strongly connected component of inert transitions from the items that the component has
-//! collected: pairs (label ID, block) and signature IDs. A signature ID stands for all pairs of this signature.
+//! Computes the signature of a strongly connected component of inert transitions. The component has collected items. An
+//! item is a pair (label ID, block) or a signature ID. A signature ID represents all pairs of the signature with this
+//! ID.
 ghost use Rattle.std.specs.Prelude.{◌↔◌, ◌<◌, length, IfOk, IfSome, IsTrue, OnOk};
 ghost use Rattle.std.specs.List.{All, Contains};
 ghost use Rattle.inert.specs.Search.{AreInternedItems, Interned};
@@ -9,9 +10,9 @@ use crate::item::{CompactItem, Item};
 use lts::Memory;
 use signatures::Interner;
 
-/// An item is a pair (label ID, block), or the ID of a signature, which represents all pairs of this signature. The
-/// function interns the signature that consists of all pairs that `items` represent, and returns the ID of this
-/// signature.
+/// An item is a pair (label ID, block) or a signature ID. A signature ID represents all pairs of the signature with
+/// this ID. The pairs that the items in `items` represent form one signature. The function interns this signature and
+/// returns its ID.
 pub(crate) fn intern_items(
     items: &[CompactItem],
     signatures: &mut Interner,
@@ -66,8 +67,8 @@ fn all_in(items: &[CompactItem], id: u32, signatures: &Interner) -> bool
     true
 }
 
-/// An item is a pair (label ID, block) or a signature ID. This function stores the signature IDs among the items in
-/// `signature_ids`, and the pairs among the items in `pairs`.
+/// An item is a pair (label ID, block) or a signature ID. The function clears the vectors `signature_ids` and `pairs`.
+/// It then stores the signature IDs among the items in `signature_ids`, and the pairs among the items in `pairs`.
 fn collect(
     items: &[CompactItem],
     signature_ids: &mut Vec<u32>,

@@ -1,7 +1,7 @@
-//! A depth-first search along inert transitions. It is Gabow's algorithm for strongly connected components (2000). A
-//! component is a set of states on the stack such that a path of inert transitions leads from each state of the set to
-//! every other state of the set. Inert transitions can also lead from a component to further states. The component
-//! stays on the stack until all these further states are completed.
+//! A depth-first search along inert transitions. It is Gabow's algorithm for strongly connected components (2000). The
+//! stack of the search is divided into components. A component is a set of states that paths of inert transitions
+//! connect in both directions. Inert transitions can also lead from a component to further states. The component stays
+//! on the stack until all these further states are completed.
 ghost use Rattle.std.specs.Prelude.{◌≡◌, ◌↔◌, ℕ, ◌<◌, ◌≤◌, [], length, IsTrue, IfOk, OnOk};
 ghost use Rattle.std.specs.List.{All};
 ghost use Rattle.memory.specs.declared.limits.TheConstants.{MOST_STATES};
@@ -31,9 +31,9 @@ pub(crate) enum VisitState {
     Completed(u32),
 }
 
-/// A frame for a state on the stack, whose row consists of its outgoing transitions. The height of a state is its index
-/// on the stack. The transitions of the row that are still to be read are the transitions at the indices `next..end` in
-/// the list of all transitions.
+/// A frame belongs to a state on the stack, and records which outgoing transitions of this state are still to be read.
+/// These transitions are at the indices `next..end` in the list of all transitions. The field `height` is the index of
+/// the state on the stack.
 #[derive(Clone, Copy)]
 pub(crate) struct Frame {
     pub height: u32,
@@ -41,31 +41,33 @@ pub(crate) struct Frame {
     pub end: u32,
 }
 
-/// The stack is divided into components, which collect items: pairs (label ID, target block) and signature IDs. The
-/// root of a component is its first state on the stack. The struct has the height of this state (its index on the
-/// stack), and the index at which the items of the component begin.
+/// The stack is divided into components, which are strongly connected sets of states. Each component collects items:
+/// pairs (label ID, target block) and signature IDs. The root of a component is its first state on the stack. The field
+/// `height` is the index of this state on the stack. The field `items` is the index at which the items of the component
+/// begin in the vector of all items.
 #[derive(Clone, Copy)]
 pub(crate) struct Root {
     pub height: u32,
     pub items: usize,
 }
 
-/// The data of a search. It has the status of each state (`stages`), the stack of states, and the frames. Each frame
-/// has the outgoing transitions of a state on the stack that are still to be read. The stack is divided into
-/// components, and the root of a component is its first state on the stack. The items are the pairs (label ID, target
-/// block) and the signature IDs that the components have collected.
+/// The data of a search. The vector `stages` has the status of each state. Each frame belongs to a state on the stack,
+/// and records which outgoing transitions of this state are still to be read. The stack is divided into components,
+/// which are sets of states that inert transitions connect in both directions. The root of a component is its first
+/// state on the stack. The items are the pairs (label ID, target block) and the signature IDs that the components have
+/// collected.
 pub(crate) struct DepthFirstSearch {
     pub stages: Vec<VisitState>,
     /// The stack: the states that were pushed and are not completed, in the order in which they were pushed.
     pub stack: Vec<u32>,
-    /// Each frame has the outgoing transitions of a state on the stack that are still to be read. The current state of
-    /// the search is the state of the last frame.
+    /// Each frame belongs to a state on the stack, and records which outgoing transitions of this state are still to be
+    /// read. The current state of the search is the state to which the last frame belongs.
     pub frames: Vec<Frame>,
     pub roots: Vec<Root>,
     pub items: Vec<CompactItem>,
-    /// The vectors `signature_ids` and `pairs` are working memory for `intern_items`. An item that a component of the
-    /// stack has collected is a pair (label ID, target block) or a signature ID. The vector `pairs` is for the pairs
-    /// among the items, and `signature_ids` is for the signature IDs among the items.
+    /// The vectors `signature_ids` and `pairs` are working memory for `intern_items`, which interns the signature of a
+    /// strongly connected component. The component has collected items. The vector `pairs` is for the items that are
+    /// pairs (label ID, target block), and the vector `signature_ids` is for the items that are signature IDs.
     pub signature_ids: Vec<u32>,
     pub pairs: Vec<(u32, u32)>,
 }
@@ -169,7 +171,7 @@ impl DepthFirstSearch {
         }
     }
 
-    /// Returns whether the transition is inert and its target is unvisited or on the stack (not completed).
+    /// Returns whether the transition `step` is inert and its target is unvisited or on the stack (not completed).
     #[inline(always)]
     pub fn leads_on(&self, step: Step) -> bool
         requires { (t : ℕ) → step ≡ Inert t → t < length self.now.stages }
@@ -185,9 +187,10 @@ impl DepthFirstSearch {
         }
     }
 
-    /// Pushes the state `s` on the stack as a component of its own. The items of this component, which are pairs (label
-    /// ID, target block) and signature IDs, begin at the index `items`. The transitions of `s` that are still to be
-    /// read are at the places (indices) `next..end`. They are stored in the frame of `s`.
+    /// Pushes the state `s` on the stack as a component of its own. A component is a strongly connected set of states
+    /// on the stack, and its items are pairs (label ID, target block) and signature IDs. The items of the new component
+    /// begin at the index `items` in the vector of all items. The transitions of `s` at the places (indices)
+    /// `next..end` are still to be read. The frame of `s` records these places.
     #[inline(always)]
     pub fn push_state(&mut self, s: u32, next: u32, end: u32, items: usize) -> Result<(), Memory>
         requires state { s < length self.old.stages }
@@ -202,12 +205,13 @@ impl DepthFirstSearch {
         Ok(())
     }
 
-    /// Processes one outgoing transition of the current state of the search, whose component is at the top of the
-    /// stack. If the transition is not inert, this component collects its pair (label ID, target block). If the
-    /// transition is inert, there are three cases for the status of its target. An unvisited target is pushed on the
-    /// stack as a component of its own. If the target is on the stack, the component of the target and all components
-    /// above it are merged. If the target is completed, the component of the current state collects the signature ID of
-    /// the target. Returns whether a state was pushed.
+    /// Processes one outgoing transition of the current state of the search. A component is a strongly connected set of
+    /// states on the stack, and the component of the current state is at the top of the stack. If the transition is not
+    /// inert, this component collects the pair (label ID, target block) of the transition. If the transition is inert,
+    /// there are three cases for the status of its target. An unvisited target is pushed on the stack as a component of
+    /// its own. If the target is on the stack, the component of the target and all components above it are merged. If
+    /// the target is completed, the component of the current state collects the signature ID of the target. Returns
+    /// whether a state was pushed.
     #[inline(always)]
     pub fn handle_step<M: Meter>(&mut self, lens: &Lens<M>, step: Step) -> Result<bool, Memory>
         requires state { (t : ℕ) → step ≡ Inert t → t < lens.now.l.states }
@@ -236,8 +240,8 @@ impl DepthFirstSearch {
         Ok(false)
     }
 
-    /// A frame has the outgoing transitions of a state on the stack that are still to be read. Returns the last frame,
-    /// whose state is the current state of the search.
+    /// Each frame belongs to a state on the stack, and records which outgoing transitions of this state are still to be
+    /// read. Returns the last frame. The state to which it belongs is the current state of the search.
     #[inline(always)]
     pub fn top_frame(&self) -> Frame
         requires { 0 < length self.now.frames }
@@ -247,8 +251,9 @@ impl DepthFirstSearch {
     }
 }
 
-/// The stack is divided into components, and the root of a component is its first state on the stack. This function
-/// drops the roots that are above the index `height` of the stack.
+/// The stack is divided into components, which are strongly connected sets of states. The root of a component is its
+/// first state on the stack. This function removes all roots that are above the index `height` of the stack from the
+/// vector `roots`.
 fn cut(roots: &mut Vec<Root>, height: u32)
     ensures { CutsRoots height roots.old.items roots.new.items }
 {

@@ -14,8 +14,8 @@ pub(crate) enum Item {
     Interned(u32),
 }
 
-/// A `CompactItem` is a pair (label ID, target block) or a signature ID in 8 bytes. If it is a signature ID, it has
-/// this value in place of the label ID. No label has this value as its ID.
+/// A `CompactItem` stores a pair (label ID, target block) or a signature ID in 8 bytes. If it stores a signature ID,
+/// its field `label` has the value `INTERNED`. No label has this value as its ID.
 pub(crate) const INTERNED: u32 = 0xFFFF_FFFF;
 
 /// An item, which is a pair (label ID, target block) or a signature ID, in 8 bytes. An `Item` takes 12 bytes. The size

@@ -10,10 +10,10 @@ ghost use Rattle.inert.specs.Search.{Laws};
 use lts::{Lts, Meter, Visited};
 use std::marker::Model;
 
-/// A view of a system and of the block of each state, which distinguishes inert transitions from other transitions. The
-/// field `visited` is `None`, or has the places (indices) of the transitions that were already visited in this round. A
-/// visit is a counted read of a transition. If the view reads a transition in `visited` again, this read is not
-/// counted.
+/// A view of a system and of the block of each state. The view distinguishes inert transitions from other transitions.
+/// The field `visited` is `None`, or has the places (indices) of the transitions that were already visited in this
+/// round. A visit is a counted read of a transition. If the view reads a transition in `visited` again, this read is
+/// not counted.
 #[derive(Drop)]
 pub struct Lens<'a, M: Meter> {
     l: &'a Lts<M>,

@@ -1,7 +1,7 @@
 //! Computes the branching signatures of the active states, which are the states that a round processes. A depth-first
-//! search along inert transitions reads the row of each state (its outgoing transitions) once. A visit is a counted
-//! read of a transition. If a transition was already visited in the round, the search reads it again without another
-//! visit.
+//! search along inert transitions reads the row of each active state (its outgoing transitions) once. A visit is a
+//! counted read of a transition. If a transition was already visited in the round, the search reads it again, but this
+//! read is not counted.
 //!
 //! A transition is inert if it is internal and its source and target are in the same block. The signature of a state
 //! contains the pair (label, target block) of each of its transitions that is not inert. It also contains all pairs in
@@ -13,10 +13,10 @@
 //!
 //! * The transition is not inert. Its pair (label, target block) becomes an item of the current component.
 //! * The transition is inert and its target is unvisited. The target is pushed on the stack as a component of its own,
-//!   and gets a frame. The frame has the outgoing transitions of the target that are still to be read.
+//!   and gets a frame. The frame records which outgoing transitions of the target are still to be read.
 //! * The transition is inert and its target is on the stack. All components from the component of the target up to the
-//!   top of the stack are merged into one component. The root of a component is its first state on the stack. Of the
-//!   roots of the merged components, only the lowest root remains.
+//!   top of the stack are merged into one component. The root of a component is its first state on the stack. The
+//!   merged component keeps only the lowest of the old roots.
 //! * The transition is inert and its target is completed. The ID of the signature of the target becomes an item of the
 //!   current component.
 //!

@@ -1,5 +1,5 @@
-//! The moves of the depth-first search along inert transitions. The search reads the row of each state (its outgoing
-//! transitions) once.
+//! The moves of the depth-first search along inert transitions. The search reads the row of each active state (its
+//! outgoing transitions) once.
 ghost use Rattle.std.specs.Prelude.{◌≡◌, ◌+◌, ◌-◌, ◌<◌, ◌≤◌, length, take, drop, IfOk, OnOk};
 ghost use Rattle.lts.specs.Meter.{HasRoomFor, Costs};
 ghost use Rattle.inert.specs.Search.{stage_at, unread, IsFinished, AreOpen, AreInternedItems};
@@ -48,10 +48,11 @@ impl DepthFirstSearch {
         Ok(())
     }
 
-    /// Begins a search at the unvisited state `s`, and reads the outgoing transitions of `s` without pushing `s` on the
-    /// stack. If an inert transition leads to a state that is not completed, `s` is pushed with a frame for the
-    /// transitions that are still to be read, and the search follows the inert transition. If there is no such
-    /// transition, `s` is completed as soon as all of its transitions were read.
+    /// Begins a search at the unvisited state `s`. At first, the outgoing transitions of `s` are read without pushing
+    /// `s` on the stack. Suppose that an inert transition of `s` leads to a state that is not completed. Then `s` is
+    /// pushed with a frame, which records which transitions of `s` are still to be read, and the search follows the
+    /// inert transition. If `s` has no such inert transition, `s` is completed as soon as all of its transitions were
+    /// read.
     fn begin<M: Meter>(
         &mut self,
         lens: &Lens<M>,
@@ -88,8 +89,8 @@ impl DepthFirstSearch {
         Ok(())
     }
 
-    /// Continues to read the outgoing transitions of the current state of the search. The current state is the state of
-    /// the last frame, and a frame has the transitions of its state that are still to be read. If an inert transition
+    /// Continues to read the outgoing transitions of the current state of the search, which is the state to which the
+    /// last frame belongs. A frame records which transitions of its state are still to be read. If an inert transition
     /// leads to an unvisited state, this unvisited state is pushed, and reading stops. Otherwise, reading stops after
     /// the last transition. Returns whether a state was pushed.
     fn read<M: Meter>(
@@ -123,9 +124,10 @@ impl DepthFirstSearch {
         Ok(false)
     }
 
-    /// A frame has the outgoing transitions of a state on the stack that are still to be read. The function pops the
-    /// last frame after all outgoing transitions of its state were read. If this state is the first state of a
-    /// component on the stack, the component is completed.
+    /// Each frame belongs to a state on the stack, and records which outgoing transitions of this state are still to be
+    /// read. The function pops the last frame after all outgoing transitions of its state were read. If this state is
+    /// the first state of a component, which is a strongly connected set of states on the stack, the component is
+    /// completed.
     fn go_back<M: Meter>(&mut self, lens: &Lens<M>, signatures: &mut Interner) -> Result<(), Memory>
         requires walks { SearchInvariant lens.now signatures.old self.old }
         requires some { 0 < length self.old.frames }
@@ -145,9 +147,9 @@ impl DepthFirstSearch {
         Ok(())
     }
 
-    /// Completes the component at the top of the stack. The argument `root` is the first state of this component on the
-    /// stack. The function interns the signature of the component, marks the states of the component as completed, and
-    /// removes these states from the stack.
+    /// Completes the component at the top of the stack. A component is a strongly connected set of states on the stack,
+    /// and the argument `root` is the first state of this component. The function interns the signature of the
+    /// component, marks the states of the component as completed, and removes these states from the stack.
     fn close(&mut self, root: Root, signatures: &mut Interner) -> Result<(), Memory>
         requires open { AreOpen self.old.stages self.old.stack }
         requires height { root.height ≤ length self.old.stack }
@@ -168,8 +170,8 @@ impl DepthFirstSearch {
         Ok(())
     }
 
-    /// An item is either a pair (label ID, target block) or the ID of a signature. The ID of a signature represents all
-    /// pairs of this signature. The function takes the items from the index `first` on. All pairs that these items
+    /// An item is a pair (label ID, target block) or a signature ID. A signature ID represents all pairs of the
+    /// signature with this ID. The function takes the items from the index `first` on. All pairs that these items
     /// represent form one signature. The function interns this signature, removes the items, and returns the ID of the
     /// signature.
     #[inline(always)]

@@ -66,9 +66,9 @@ impl Signer {
 
     /// Interns the branching signature of each active state (a state that the round processes) in `signatures`, and
     /// caches the ID of this signature. The cached IDs of all other states do not change. If a state is not active but
-    /// shares a block with an active state, its cached ID must be the ID of its signature. For each active state whose
-    /// cached ID has changed, the entry in `signature_ids` is set to the new ID. For every other active state, the
-    /// entry is set to the ID of the empty signature.
+    /// shares a block with an active state, the caller guarantees that the cached ID of this state is the ID of its
+    /// signature. For each active state whose cached ID has changed, its entry in `signature_ids` is set to the new ID.
+    /// For every other active state, its entry in `signature_ids` is set to the ID of the empty signature.
     ///
     /// After an error, it is unspecified which signatures are interned and which IDs are cached.
     pub fn sign_each<M: Meter>(
@@ -144,9 +144,10 @@ fn copy_cached_ids(search: &DepthFirstSearch, active: &[u32], signature_ids: &mu
 }
 
 /// Goes through the active states (the states that the round processes) from the last to the first, and runs the search
-/// from each state that is still unvisited. Often the states are numbered in the order in which a state space
-/// exploration has discovered them. For such systems, this order has two advantages: most transitions lead to states
-/// that are already completed, and transitions that are adjacent in memory are read one after the other.
+/// from each state that is still unvisited. In many systems, the states are numbered in the order in which a state
+/// space exploration has discovered them. For such systems, going from the last to the first has two advantages. First,
+/// most transitions lead to states that are already completed. Second, transitions that are adjacent in memory are read
+/// one after the other.
 fn search_all<M: Meter>(
     search: &mut DepthFirstSearch,
     lens: &Lens<M>,
@@ -174,9 +175,10 @@ fn search_all<M: Meter>(
     Ok(())
 }
 
-/// All active states (the states that the round processes) must be completed. For each of them, the function replaces
-/// the old signature ID in `signature_ids` by the new signature ID. If the two IDs are equal, it replaces the old ID by
-/// `EMPTY`, the ID of the empty signature.
+/// All active states (the states that the round processes) must be completed. The entry of an active state in
+/// `signature_ids` is its old signature ID. If the new signature ID of the state is different, the function replaces
+/// the entry by the new ID. If the two IDs are equal, the function replaces the entry by `EMPTY`, the ID of the empty
+/// signature.
 fn write_split_ids(search: &DepthFirstSearch, active: &[u32], signature_ids: &mut [u32])
     requires size { length signature_ids.old ≡ length search.now.stages }
     requires active { AreActive (length search.now.stages) active.now }

@@ -1,7 +1,7 @@
 -- The loop of `number` goes through the states in ascending order, and gives them class numbers. The class number of a
--- reachable state is the quotient state that represents it. The lemmas below are about the invariant of this loop
--- (`Taken`). The invariant holds before the loop. If it holds before a state is given its class number, it still holds
--- afterwards. After the last state, the invariant implies that all class numbers are correct.
+-- reachable state is the number of the quotient state that represents it. The lemmas of this file are about the
+-- invariant of this loop (`Taken`). The invariant holds before the loop. If it holds before a state gets its class
+-- number, it still holds afterwards. After the last state, the invariant implies that all class numbers are correct.
 use Rattle.std.proofs.Common.{◌≡◌, ◌≢◌, ◌∙◌, ◌⊎◌, ◌↔◌, ℕ, ◌+◌, ◌<◌, ◌≤◌, Bool, IsTrue, List, [], ◌∷◌, ◌++◌, length}
 use Rattle.std.proofs.Common.{slice_index, replicate, set, refl, sym, ap, subst, inl, inr, arith}
 use Rattle.std.proofs.lemmas.Grind.{common_steps}
@@ -19,38 +19,41 @@ use Rattle.quotient_core.specs.declared.numbering.Numbers.{Numbers}
 use Rattle.quotient_core.specs.declared.numbering.TheConstants.{NONE}
 use Rattle.theory.proofs.CallerLemmas.{is_leader_itself}
 
--- If x is appended to a list, then each element of the new list either is the element of the old list at the same
--- index, or is x at the last index.
+-- Suppose that x is appended to a list. Then each element of the new list is either the element of the old list at the
+-- same index, or x at the last index.
 at_push : (xs : List ℕ) (x t : ℕ) → t < length xs + 1 →
     ((t < length xs) × (slice_index (xs ++ x ∷ []) t ≡ slice_index xs t))
     ⊎ ((t ≡ length xs) × (slice_index (xs ++ x ∷ []) t ≡ x))
 at_push xs x t h = grind (arith, common_steps)
 
 module _ {b : ℕ} {reached : Bool} {old new : Numbers} (takes : TakesState b reached old new) where
-  -- The table `by_block` has the class number of each block, which is the quotient state that represents the states of
-  -- the block. When a state is given its class number, this table keeps its length, and at most one class is added to
-  -- the list of classes.
+  -- The table `by_block` has the class number of each block, which is the number of the quotient state that represents
+  -- the reachable states of the block. When a state gets its class number, this table keeps its length, and at most one
+  -- class is added to the list of classes.
   pub TakesState-room : (length new.by_block.items ≡ length old.by_block.items)
       × (length old.classes.items ≤ length new.classes.items)
       × (length new.classes.items ≤ length old.classes.items + 1)
   TakesState-room = grind (arith, length-set {A = ℕ}, length_push {X = ℕ}, takes.classes)
 
-  -- Suppose that a state has just been given its class number (the quotient state that represents it). Each class in
-  -- the list of classes either was in this list before, or is the class of this state.
+  -- Suppose that a state has just been given its class number, which is the number of the quotient state that
+  -- represents it. Then each entry of the list of classes either was at the same index of this list before, or is the
+  -- block of this state at the last index.
   pub class_at : (i : ℕ) → i < length new.classes.items → ((i < length old.classes.items)
       × (slice_index new.classes.items i ≡ slice_index old.classes.items i))
       ⊎ (IsTrue reached × (slice_index old.by_block.items b ≡ NONE) × (i ≡ length old.classes.items)
       × (slice_index new.classes.items i ≡ b))
   class_at i l = grind (arith, takes.classes, at_push old.classes.items b i, length_push old.classes.items b)
 
--- `Other` holds if the state m is the leader of its class, which is the state that represents this class, if m is less
--- than s, and if m is not the first state.
+-- `Other` holds under three conditions. First, the state m is a leader. Second, m is less than s. Third, m is not the
+-- first state of the system. The leader of the class of the first state is the first state. The leader of any other
+-- class is the smallest reachable state of this class.
 abbrev pub Other : Relation → System → ℕ → ℕ → Type 0
 Other rel A s m = IsLeader rel A m × (m < s) × (m ≢ A.first)
 
--- `Laws` collects the assumptions of the proofs below. The first assumption is that two states share a block if and
--- only if they are bisimilar. Other assumptions say how the quotient numbers its classes. The last assumptions say how
--- many leaders (states that represent their classes) are less than a given state.
+-- `Laws` collects the assumptions of the proofs below. The first assumption (`same`) is that two states share a block
+-- if and only if they are bisimilar. The assumptions `number` and `classes` say how the quotient numbers its classes.
+-- The last four assumptions say how many leaders are less than a given state. The leader of the class of the first
+-- state is the first state. The leader of any other class is the smallest reachable state of this class.
 pub record Laws (rel : Relation) (A : System) (block : ℕ → ℕ) : Type 0 where
   pub same : EachTwo A (λ s t. (block s ≡ block t) ↔ Bisimilar rel A s A t)
   pub system : IsSystem A
@@ -65,13 +68,17 @@ pub record Laws (rel : Relation) (A : System) (block : ℕ → ℕ) : Type 0 whe
       HowMany (Other rel A (l + 1)) c
   pub all : (c : ℕ) → HowMany (Other rel A A.states) c → HowMany (IsLeader rel A) (1 + c)
 
--- `number_at` is the class number (the quotient state) that the table `by_block` has for the block of the state t.
+-- `number_at` is the entry that the table `by_block` has for the block of the state t. The entry is the class number of
+-- this block, which is the number of the quotient state for the block. If the block has no class number yet, the entry
+-- is `NONE`.
 abbrev pub number_at : (ℕ → ℕ) → Numbers → ℕ → ℕ
 number_at block n t = slice_index n.by_block.items (block t)
 
--- `Taken` is the invariant of the loop. It holds after all states less than s have been given their class numbers,
--- which are the quotient states that represent them. The class number of each reachable state less than s is the class
--- number of its block. In the list of classes, the entry at the index of this class number is the ID of this block.
+-- `Taken` is the invariant of the loop that gives class numbers to the states. The class number of a reachable state is
+-- the number of the quotient state that represents it. The class number of a block is the number of the quotient state
+-- that represents the reachable states of the block. The invariant holds after all states less than s have been given
+-- their class numbers. It says that the class number of each reachable state less than s is the class number of its
+-- block. In the list of classes, the entry at the index of this class number is the ID of this block.
 pub record Taken (rel : Relation) (A : System) (block : ℕ → ℕ) (s : ℕ) (n : Numbers) : Type 0 where
   pub numbers_long : length n.numbers.items ≡ s
   pub first : number_at block n A.first ≡ 0
@@ -88,16 +95,15 @@ module _ (rel : Relation) (A : System) (block : ℕ → ℕ) (laws : Laws rel A 
   share : (s t : ℕ) → Reachable A s → Reachable A t → (block s ≡ block t) ↔ Bisimilar rel A s A t
   share s t ws wt = laws.same s t (laws.below s ws) (laws.below t wt)
 
-  -- If two reachable states share a block, they have the same class number, which is the quotient state that represents
-  -- both of them.
+  -- Suppose that two reachable states share a block. Then the same quotient state represents both of them.
   number_shared : (u t n : ℕ) → Reachable A u → Reachable A t → block u ≡ block t → Number rel A u n → Number rel A t n
   number_shared u t n wu wt e h =
       let own : (m : ℕ) × Number rel A t m = laws.number t wt in
       let same : n ≡ own.0 = (laws.classes u t n own.0 wu wt h own.1).1 ((share u t wu wt).0 e) in
       subst (Number rel A t) (sym same) own.1
 
-  -- The following lemmas are about the step in which the loop gives the state s its class number, which is the quotient
-  -- state that represents s.
+  -- The following lemmas are about the step in which the loop gives the state s its class number, which is the number
+  -- of the quotient state that represents s.
   module _ (s : ℕ) (old new : Numbers) (reached : Bool) (is_reached : IsTrue reached ↔ Reachable A s)
       (ls : s < A.states) (low : s + 1 < NONE) (few : length old.classes.items ≤ s + 1)
       (within : block s < length old.by_block.items) (h : Taken rel A block s old)
@@ -105,8 +111,8 @@ module _ (rel : Relation) (A : System) (block : ℕ → ℕ) (laws : Laws rel A 
     abbrev count : ℕ
     count = length old.classes.items
 
-    -- The following lemmas are about the case that s is the first reachable state of its block. In this case, its block
-    -- gets the next class number, which is the next state of the quotient.
+    -- The following lemmas assume that s is the first reachable state of its block. The block then gets the next class
+    -- number, which is the number of a new state of the quotient.
     module _ (marked : IsTrue reached) (none : number_at block old s ≡ NONE) where
       way : Reachable A s
       way = is_reached.0 marked
@@ -117,7 +123,8 @@ module _ (rel : Relation) (A : System) (block : ℕ → ℕ) (laws : Laws rel A 
       other : s ≢ A.first
       other e = apart (ap block (sym e))
 
-      -- The state s is the leader of its class, which is the state that represents this class.
+      -- The state s is the leader of its class: it is the smallest reachable state of the class, and the class does not
+      -- contain the first state of the system.
       leads : Leader rel A s s
       leads =
           let least = λ (k : ℕ) (fellow : Fellow rel A s k).
@@ -128,9 +135,9 @@ module _ (rel : Relation) (A : System) (block : ℕ → ℕ) (laws : Laws rel A 
           let own = (share s s way way).0 refl in
           inr (λ b. apart (sym ((share s A.first way ([], refl)).1 b)), ((way, own), least))
 
-    -- Suppose that the block of the state s already has a class number, which is the quotient state for this block.
-    -- Then s is not the leader of its class (the state that represents this class), unless s is the first state of the
-    -- system.
+    -- Suppose that the block of the state s already has a class number, which is the number of a quotient state. Then s
+    -- is not the leader of its class, unless s is the first state of the system. The leader of the class of the first
+    -- state is the first state. The leader of any other class is the smallest reachable state of this class.
     not_other : (IsTrue reached → number_at block old s ≢ NONE) → ¬ (IsLeader rel A s × (s ≢ A.first))
     not_other joins (lead, other) =
         let own : Reachable A s × Leader rel A s s = is_leader_itself rel A laws.system s lead in
@@ -141,8 +148,9 @@ module _ (rel : Relation) (A : System) (block : ℕ → ℕ) (laws : Laws rel A 
         ((share s s own.0 own.0).0 refl) in
         absurd (omega (arith, same, had.0))
 
-    -- A class number is the quotient state for a class. When the state s gets its class number, the class number of its
-    -- block may change from `NONE` to the next class number. The class numbers of all other blocks do not change.
+    -- A class number is the number of the quotient state that represents a class. When the state s gets its class
+    -- number, the class number of its block stays the same or changes from `NONE` to the next class number. The class
+    -- numbers of all other blocks do not change.
     at : (t : ℕ) → ((number_at block new t ≡ number_at block old t) × (block t ≡ block s → IsTrue reached →
         number_at block old t ≢ NONE)) ⊎ (IsTrue reached × (number_at block old s ≡ NONE) × (block t ≡ block s)
         × (number_at block old t ≡ NONE) × (number_at block new t ≡ count))
@@ -151,8 +159,8 @@ module _ (rel : Relation) (A : System) (block : ℕ → ℕ) (laws : Laws rel A 
         let other = get_or-set_other old.by_block.items (block s) (block t) count 0 in
         grind (arith, takes.classes, cases_eq (block t) (block s), same, other)
 
-    -- If the invariant of the loop (`Taken`) holds before the state s is given its class number (the quotient state
-    -- that represents it), then the invariant also holds afterwards.
+    -- If the invariant of the loop (`Taken`) holds before the state s gets its class number, then the invariant also
+    -- holds afterwards. The class number of s is the number of the quotient state that represents s.
     pub Taken-adds : Taken rel A block (s + 1) new
     Taken-adds = record {
       numbers_long = rw takes.numbers (omega (arith, length_push {X = ℕ}, h.numbers_long));
@@ -190,8 +198,9 @@ module _ (rel : Relation) (A : System) (block : ℕ → ℕ) (laws : Laws rel A 
           grind (arith, takes.classes, length_push old.classes.items (block s), h.fewer, other, l);
     }
 
-  -- A class number is the quotient state for a class. The invariant of the loop (`Taken`) holds before any state is
-  -- given its class number. At this time, only the block of the first state of the system has a class number.
+  -- A class number is the number of the quotient state that represents a class. The invariant of the loop (`Taken`)
+  -- holds before the loop gives a class number to any state. At this time, only the block of the first state of the
+  -- system has a class number.
   pub Taken-start : (count : ℕ) (n : Numbers) → ((t : ℕ) → t < A.states → block t < count) →
       n.by_block.items ≡ set (replicate count NONE) (block A.first) 0 →
       n.numbers.items ≡ [] → n.classes.items ≡ block A.first ∷ [] → Taken rel A block 0 n

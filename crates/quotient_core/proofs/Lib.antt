@@ -2,7 +2,8 @@
 pub mod Visits
 -- Lemmas about the search for the reachable states.
 pub mod Reaching
--- Lemmas about the class numbers of states, which are the quotient states that represent them.
+-- Lemmas about the class numbers of states. The class number of a reachable state is the number of the quotient state
+-- that represents it.
 pub mod Classes
 -- Lemmas about the transitions of the quotient.
 pub mod Showing

@@ -1,9 +1,9 @@
--- The class number of a state is the quotient state that represents it. Each transition of a state gives a quotient
--- transition of this state: its source and its target are replaced by their class numbers. The transitions that the
--- quotient leaves out are not counted as quotient transitions. The lemmas of this file prove that the quotient
--- transitions of all reachable states are exactly the transitions of the quotient. They also lead to the following
--- theorem. If no transition of a state is left out, then each quotient transition of another state with the same class
--- number is also a quotient transition of this state.
+-- The class number of a state is the number of the quotient state that represents it. Each transition of a state gives
+-- a quotient transition of this state: the source and the target of the transition are replaced by their class numbers.
+-- If the quotient leaves out the result, it is not a quotient transition. The lemmas of this file prove that the
+-- quotient transitions of all reachable states are exactly the transitions of the quotient. They also prove
+-- `ShowEachOther`: if no transition of a state is left out, then each quotient transition of another state with the
+-- same class number is also a quotient transition of this state.
 use Rattle.std.proofs.Common.{rules, ◌≡◌, ◌≢◌, ◌∙◌, ◌↔◌, ℕ, ◌<◌, ◌≤◌, true, not, Option, List, length, map, [], get_or}
 use Rattle.std.proofs.Common.{Contains, IsPermutation, refl, sym, ap, subst, arith}
 use Rattle.std.specs.List.{AllPairs}
@@ -28,8 +28,9 @@ use Rattle.theory.proofs.CallerLemmas.{leads_on, quotient_reordered}
 use Rattle.lts.proofs.CallerLemmas.{contains_mapped, mapped_contains, contains_passing}
 use Rattle.quotient_core.proofs.Showing.{place_of, shown_place}
 
--- If the triples of a list are pairwise different, and the label table has their label IDs, then the transitions that
--- these triples denote are pairwise different.
+-- A triple (source, label ID, target) denotes the transition with this source, this target, and the label with this ID.
+-- Suppose that the triples of a list are pairwise different, and that the label table has their label IDs. Then the
+-- transitions that these triples denote are pairwise different.
 transitions_differ : (labels : List (List ℕ)) (es : List Triple) → IsTable labels →
     ((x : Triple) → Contains es x → label_of x < length labels) →
     AllPairs (λ x y. x ≢ y) es → AllPairs (λ e f. e ≢ f) (map (transition_of labels) es)
@@ -42,18 +43,19 @@ transitions_differ labels es table within once i j d low high same =
     (within _ (Contains-get_or es j (0, 0, 0) lj)) (ap (λ t. t.label) e) in
     once i j (0, 0, 0) low lj (λ k. (ap (λ t. t.source) e k, label k, ap (λ t. t.target) e k))
 
--- Suppose that the source of the triple x equals its target if and only if the states s and t are bisimilar, and let a
--- be the label of x. Then the quotient drops the transition that x denotes if and only if the step s -a-> t is inert.
+-- Let x be a triple (source, label ID, target), let s and t be states, and let a be the label of x. Suppose that the
+-- source of x equals its target if and only if s and t are bisimilar. Then the quotient drops the transition that x
+-- denotes if and only if the step s -a-> t is inert.
 dropped_is : (rel : Relation) (A : System) (labels : List (List ℕ)) (x : Triple) (s t : ℕ) →
     (source_of x ≡ target_of x) ↔ Bisimilar rel A s A t →
     IsDropped rel (transition_of labels x) ↔ ShowsNothing rel A s (text_of labels (label_of x)) t
 dropped_is Strong A labels x s t same = (λ gone. gone, λ gone. gone)
 dropped_is Branching A labels x s t same = (λ h. (h.0, same.0 h.1), λ h. (h.0, same.1 h.1))
 
--- `IsNumbered` states two facts about the program. First, each reachable state of the system g has its class number
--- (the quotient state that represents it). Second, the program leaves out a triple (`is_left_out`) if and only if the
--- quotient modulo `rel` drops the transition that the triple denotes (`IsDropped`). All other fields of this record are
--- theorems of the crates `theory` and `lts` about the system g.
+-- `IsNumbered` states two facts about the program. First, each reachable state of the system g has its class number,
+-- which is the number of the quotient state that represents it. Second, the program leaves out a triple (source, label
+-- ID, target) if and only if the quotient modulo `rel` drops the transition that the triple denotes (`IsDropped`). All
+-- other fields of this record are theorems of the crates `theory` and `lts` about the system g.
 pub record IsNumbered (rel : Relation) (g : Grouped) (n : Numbering) (dropped : Option ℕ) : Type 0 where
   pub numbering : IsNumbering rel (system_of g) n
   pub drops : (x : Triple) → label_of x < length g.labels →
@@ -78,23 +80,23 @@ module _ {rel : Relation} {g : Grouped} {n : Numbering} {dropped : Option ℕ} (
   abbrev A : System
   A = system_of g
 
-  -- Suppose that a transition is in the row of a state, which is the list of its transitions. Then the source and the
-  -- target of the transition are states of the system, and its label ID is in the label table.
+  -- The row of a state is the list of its transitions. If a transition is in the row of a state, its source and its
+  -- target are states of the system, and its label ID is in the label table.
   in_range : (s : ℕ) (e : Triple) → Contains (row_of s g.places) e → IsTriple (length g.labels) g.states e
   in_range s e c = All-contains (IsTriple (length g.labels) g.states) g.places e is.lts.in_range.each
       ((is.sources s g.places e).0 c).0
 
-  -- If the state s is reachable, then the target of each transition in the row of s, which is the list of its
-  -- transitions, is reachable.
+  -- The row of a state is the list of its transitions. If the state s is reachable, then the target of each transition
+  -- in the row of s is reachable.
   way_on : (s : ℕ) (e : Triple) → Contains (row_of s g.places) e → Reachable A s → Reachable A (target_of e)
   way_on s e c way = leads_on (AnyStep A) g.first s (target_of e) way (_, (is.steps s _ _).1 (e, c, refl, refl))
 
   module _ (es : List Triple) (shown : HasShown rows (is_reached rows) es) (once : AllPairs (λ x y. x ≢ y) es) where
-    -- If the source and the target of a transition are replaced by the quotient states that represent them, the result
-    -- is a quotient transition of the original source, unless the quotient leaves the result out. Let the list `es`
-    -- have exactly the quotient transitions of all reachable states. In each triple of `es`, the source and the target
-    -- are less than the number of classes, and the label ID is in the label table. Each triple comes from a step of a
-    -- reachable state, and the quotient does not drop it.
+    -- If a transition leads from u to v, its quotient transition leads from the quotient state that represents u to the
+    -- quotient state that represents v. Let the list `es` have exactly the quotient transitions of all reachable
+    -- states, except those that the quotient leaves out. In each triple (source, label ID, target) of `es`, the source
+    -- and the target are less than the number of classes, and the label ID is in the label table. Each triple comes
+    -- from a step of a reachable state, and the quotient does not drop it.
     each_is : (x : Triple) → Contains es x → IsTriple (length g.labels) (length n.classes.items) x
         × IsQuotientStep rel A (transition_of g.labels x) × ¬ IsDropped rel (transition_of g.labels x)
     each_is x c =
@@ -110,10 +112,10 @@ module _ {rel : Relation} {g : Grouped} {n : Numbering} {dropped : Option ℕ} (
           λ gone. both_ways _ stays ((is.drops (between_numbers rows s e) (in_range s e in_row).label).1 gone),
         )
 
-    -- If the source and the target of a transition are replaced by the quotient states that represent them, the result
-    -- is a quotient transition of the original source, unless the quotient leaves the result out. Let the list `es`
-    -- have exactly the quotient transitions of all reachable states. If the length of `es` is at most the number of
-    -- transitions of the given system, then `es` satisfies the limits on the size of a system (`InRange`).
+    -- If a transition leads from u to v, its quotient transition leads from the quotient state that represents u to the
+    -- quotient state that represents v. Let the list `es` have exactly the quotient transitions of all reachable
+    -- states, except those that the quotient leaves out. If the length of `es` is at most the number of transitions of
+    -- the given system, then `es` satisfies the limits on the size of a system (`InRange`).
     pub quotient_in_range : length es ≤ length g.places → InRange (length g.labels) 0 (length n.classes.items) es
     quotient_in_range few = let some = is.numbering.numbered.below g.first
         ((is.numbering.reached g.first).1 ([], refl)) in record {
@@ -123,10 +125,9 @@ module _ {rel : Relation} {g : Grouped} {n : Numbering} {dropped : Option ℕ} (
           each = λ k d l. (each_is (get_or es k d) (Contains-get_or es k d l)).0;
         }
 
-    -- If the source and the target of a transition are replaced by the quotient states that represent them, the result
-    -- is a quotient transition of the original source, unless the quotient leaves the result out. Let the list `es`
-    -- have exactly the quotient transitions of all reachable states. Then the system that is built from `es` is the
-    -- quotient.
+    -- If a transition leads from u to v, its quotient transition leads from the quotient state that represents u to the
+    -- quotient state that represents v. Let the list `es` have exactly the quotient transitions of all reachable
+    -- states, except those that the quotient leaves out. Then the system that is built from `es` is the quotient.
     pub built : (q : Grouped) → IsBuilt 0 (length n.classes.items) g.labels es q → Quotient rel A (system_of q)
     built q made =
         let moved = IsPermutation-sym _ _ (IsPermutation-map (transition_of g.labels) es q.places made.grouping.same) in
@@ -157,8 +158,8 @@ module _ {rel : Relation} {g : Grouped} {n : Numbering} {dropped : Option ℕ} (
         made.states (subst (λ t. IsPermutation (map (transition_of t) q.places) (map (transition_of g.labels) es))
         (sym made.labels) moved) quotient
 
-  -- Two reachable states have the same class number, which is the quotient state that represents them, if and only if
-  -- they are bisimilar.
+  -- The class number of a reachable state is the number of the quotient state that represents it. Two reachable states
+  -- have the same class number if and only if they are bisimilar.
   same_is : (s t : ℕ) → Reachable A s → Reachable A t → (number_of rows s ≡ number_of rows t) ↔ Bisimilar rel A s A t
   same_is s t ws wt = is.classes s t _ _ ws wt (is.numbering.number s ws) (is.numbering.number t wt)
 
@@ -171,10 +172,10 @@ module _ {rel : Relation} {g : Grouped} {n : Numbering} {dropped : Option ℕ} (
       let out = is.drops (between_numbers rows s e) (in_range s e c).label in
       (λ gone. inert.0 (out.0 gone), λ nothing. out.1 (inert.1 nothing))
 
-  -- If the source and the target of a transition are replaced by the quotient states that represent them, the result is
-  -- a quotient transition of the original source, unless the quotient leaves the result out. Suppose that the same
-  -- quotient state represents the states s and t, and that no transition of s is left out. Then each quotient
-  -- transition of t is also a quotient transition of s.
+  -- If a transition leads from u to v, its quotient transition leads from the quotient state that represents u to the
+  -- quotient state that represents v. Suppose that the same quotient state represents the reachable states s and t, and
+  -- that the quotient leaves out no transition of s. Then each quotient transition of t that the quotient does not
+  -- leave out is also a quotient transition of s.
   pub show_each_other : ShowEachOther rows
   show_each_other s t ms mt same whole x c =
       let ws = (is.numbering.reached s).0 ms in

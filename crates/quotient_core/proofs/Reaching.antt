@@ -1,5 +1,6 @@
--- These lemmas are about the search for the reachable states. When the search marks a state or reads the transitions of
--- a state, the set of marked states changes. The set of transitions that are still to be read changes too.
+-- Lemmas about the search for the reachable states. They describe how two sets change when the search marks a state or
+-- reads the transitions of a state: the set of the marked states, and the set of the transitions that the search may
+-- still read.
 use Rattle.std.proofs.lemmas.List.{get_or_default, get_or-set_same, get_or-set_other, length-replicate, get_or_past}
 use Rattle.std.proofs.lemmas.List.{length-set, append-nil}
 use Rattle.std.proofs.Common.{◌≢◌, sum_by, ap, ◌≡◌, ◌⊎◌, ℕ, ◌+◌, ◌<◌, Bool, true, false, cond, not, ◌&&◌, eqb, ltb}
@@ -19,19 +20,20 @@ use Rattle.quotient_core.specs.Triples.{rows_of}
 use Rattle.quotient_core.specs.declared.search.Search.{Search}
 use Rattle.quotient_core.proofs.Visits.{visits_then, rows_part, rows_few}
 
--- `Follows` holds if the following is true for each marked state u that is less than `next` and is not in the queue
--- `waiting`: each state v to which R leads from u, with any label a, is marked. The search scans the states in the
--- order of their numbers, and has already passed all states that are less than `next`.
+-- The search scans the states in the order of their numbers, and has passed all states that are less than `next`.
+-- `Follows` holds if the following is true for each marked state u that the scan has passed and that is not in the
+-- queue `waiting`. If the relation R leads from u to a state v with some label, then v is marked.
 abbrev pub Follows : (ℕ → List ℕ → ℕ → Type 0) → List Bool → ℕ → List ℕ → Type 0
 Follows R marked next waiting =
     (u v : ℕ) (a : List ℕ) → u < next → IsMarked marked u → R u a v → Contains waiting u ⊎ IsMarked marked v
 
--- Each marked state is a state of the system.
+-- If the list of marks has an entry for each state of the system and no other entries, then each marked state is a
+-- state of the system.
 pub marked_below : (states : ℕ) (marked : List Bool) (s : ℕ) → length marked ≡ states → IsMarked marked s → s < states
 marked_below states marked s size m = search (rules, both_ways, get_or_past)
 
--- The invariants of the search hold when only the first state is marked, the queue is empty, and no transition was
--- read.
+-- The invariant of the search (`ReadsOnce`) holds when only the first state is marked, the queue is empty, and no
+-- transition was read.
 pub ReadsOnce-first : (g : Grouped) (at : Counts) → g.first < g.states → Reachable (system_of g) g.first →
     ReadsOnce g (set (replicate g.states false) g.first true) 0 [] at at
 ReadsOnce-first g at below reached = record {
@@ -63,8 +65,8 @@ module _ {t next : ℕ} {old new : Search} (marks : MarksState t next old new) (
       let added = Contains-append_right waiting (cond waits (t ∷ []) []) t in
       grind (arith, nat_tests, mark_at u, cases_Bool waits, on u v a, put, added, same, mark_at v)
 
-  -- Suppose that the state s is at the front of the queue, and that the search marks the target of a step of s. Then
-  -- the invariant of the search (`Searches`) still holds.
+  -- Suppose that the state s is at the front of the queue, and that the search marks a state t that is reachable if s
+  -- is reachable. Then the invariant of the search (`Searches`) still holds.
   pub Searches-step : (g : Grouped) (s : ℕ) → (Reachable (system_of g) s → Reachable (system_of g) t) →
       Searches g old.marked.items next (s ∷ old.queue.items) → Searches g new.marked.items next (s ∷ new.queue.items)
   Searches-step g s reached held =
@@ -97,8 +99,9 @@ module _ {t next : ℕ} {old new : Search} (marks : MarksState t next old new) (
         (ap (λ p. length (rows_of p places) + sum_by row old.queue.items) (λ i u. same u i))
   ]
 
--- The following lemmas assume that the search has read each transition at most once, and that the meter has counted
--- these reads (`ReadsOnce`).
+-- The following lemmas assume that the invariant of the search holds (`ReadsOnce`). The invariant implies that the
+-- number of visits (counted reads of transitions) is at most the number of transitions that the search no longer has to
+-- read.
 module _ {g : Grouped} {marked : List Bool} {next : ℕ} {waiting : List ℕ} {old mid : Counts}
     (reads : ReadsOnce g marked next waiting old mid) where
   pub ReadsOnce-row : {row past : ℕ} {more : List Bool} {left : List ℕ} {new : Counts} → Costs mid new 0 0 row →
@@ -112,8 +115,8 @@ module _ {g : Grouped} {marked : List Bool} {next : ℕ} {waiting : List ℕ} {o
 
   -- The search scans the states in the order of their numbers. The following lemmas are about the step in which the
   -- scan passes a marked state, `next`, and puts it into the queue. After this step, the invariant of the search
-  -- (`Searches`) still holds, and the transitions of `next` are no longer among the transitions that the scan may still
-  -- read.
+  -- (`Searches`) still holds. If the new entry in the queue is not counted, the number of transitions that the search
+  -- may still read has decreased by the number of transitions of `next`.
   module _ {b : Bool} {states : ℕ} (all : states ≡ g.states) (low : next < states) (e : b ≡ get_or marked next b)
       (m : b ≡ true) where
     here : IsMarked marked next

@@ -1,8 +1,8 @@
--- A quotient transition comes from a transition of the system: the source and the target are replaced by their class
--- numbers, which are the quotient states that represent them. Some lemmas below say from which transition a quotient
--- transition comes. `HasShown` says that a list has exactly the quotient transitions of the states in a set. Some
--- lemmas say how such a list changes when a state is added to the set. Other lemmas say when the list has all quotient
--- transitions of a class.
+-- A quotient transition comes from a transition of the system: the source and the target of the transition are replaced
+-- by their class numbers. The class number of a reachable state is the number of the quotient state that represents it.
+-- Some lemmas of this file say from which transition a quotient transition comes. `HasShown` says that a list has
+-- exactly the quotient transitions of the states in a set. Some lemmas say how such a list changes when a state is
+-- added to the set. Other lemmas say when the list has all quotient transitions of a class.
 use Rattle.std.proofs.Common.{◌-◌, get_or, ◌≡◌, ◌≢◌, ◌⊎◌, ℕ, ◌+◌, ◌<◌, ◌≤◌, Bool, false, not, ◌&&◌, IsTrue, eqb, ltb}
 use Rattle.std.proofs.Common.{List, [], ◌++◌, length, slice_index, Contains, IsPermutation, ap, subst, inl, inr, arith}
 use Rattle.std.proofs.Common.{map, rules, nat_eq, cond}
@@ -58,8 +58,8 @@ tidied_once ys zs filtered sorted = rw (dedup_is triple_eq ys zs filtered) (λ i
     let bad : Less ≡ Greater = rw self at (triple_total.antisymm y y) in cc)
 
 module _ (rows : Numbered) (s : ℕ) where
-  -- Each quotient transition x of the state s (a transition between quotient states) comes from a transition of s. The
-  -- quotient does not leave out x.
+  -- A quotient transition is a transition between quotient states. Each quotient transition x of the state s comes from
+  -- a transition of s, and the quotient does not leave out x.
   pub place_of : (x : Triple) → Contains (shown_by rows s) x → (e : Triple) × Contains (row_of s rows.l.places) e
       × (between_numbers rows s e ≡ x) × (is_left_out rows.dropped (between_numbers rows s e) ≡ false)
   place_of x c =
@@ -76,10 +76,10 @@ module _ (rows : Numbered) (s : ℕ) where
       (contains_mapped (between_numbers rows s) (row_of s rows.l.places) e c) (not_from_false _ stays)
 
 module _ {rows : Numbered} where
-  -- Quotient transitions are transitions between quotient states, which represent the classes of states. Suppose that
-  -- each state that satisfies p satisfies exactly one of q and r, and that each other state satisfies neither q nor r
-  -- (`Parts`). If xs has the quotient transitions of the states that satisfy q, and ys has the quotient transitions of
-  -- the states that satisfy r, then xs followed by ys has the quotient transitions of the states that satisfy p.
+  -- A quotient transition is a transition between quotient states. Suppose that each state that satisfies p satisfies
+  -- exactly one of q and r, and that each other state satisfies neither q nor r (`Parts`). Suppose also that the list
+  -- xs has the quotient transitions of the states that satisfy q, and that the list ys has the quotient transitions of
+  -- the states that satisfy r. Then xs followed by ys has the quotient transitions of the states that satisfy p.
   pub shown_with : {p q r : ℕ → Bool} {xs ys : List Triple} → Parts p q r → HasShown rows q xs → HasShown rows r ys →
       HasShown rows p (xs ++ ys)
   shown_with {p} {q} {r} {xs} {ys} parts h g = record {
@@ -99,8 +99,8 @@ module _ {rows : Numbered} where
       cases : (s : ℕ) → IsTrue (p s) → IsTrue (q s) ⊎ IsTrue (r s)
       cases s h = grind (arith, parts s)
 
-  -- The list `shown_by rows s` has exactly the quotient transitions (transitions between quotient states) of the set
-  -- that contains only the state s.
+  -- A quotient transition is a transition between quotient states. The list `shown_by rows s` has exactly the quotient
+  -- transitions of the state s, and no quotient transitions of other states.
   pub shown_row : (s : ℕ) → HasShown rows (λ t. eqb t s) (shown_by rows s)
   shown_row s = record {
     exactly = λ x. (
@@ -126,28 +126,29 @@ module _ {rows : Numbered} where
     few = omega (arith, short, h.few);
   }
 
--- `is_below` is true if the state s is reachable and its class number, which is the quotient state that represents s,
--- is less than n.
+-- `is_below` is true if the state s is reachable and its class number is less than n. The class number of s is the
+-- number of the quotient state that represents s.
 abbrev pub is_below : Numbered → ℕ → ℕ → Bool
 is_below rows n s = is_reached rows s && ltb (number_of rows s) n
 
--- The class number of a state is the quotient state that represents it. A reachable state has a class number less than
--- n + 1 if and only if its class number is less than n or equal to n. The two cases exclude each other (`Parts`).
+-- The class number of a state is the number of the quotient state that represents it. A reachable state has a class
+-- number less than n + 1 if and only if its class number is less than n or equal to n. The two cases exclude each other
+-- (`Parts`).
 pub below_next : (rows : Numbered) (n : ℕ) → Parts (is_below rows (n + 1)) (is_below rows n) (is_member rows n)
 below_next rows n s = grind (arith, nat_tests)
 
--- The class number of a state is the quotient state that represents it. The reachable states with class numbers less
--- than n and the reachable states with the class number n together have at most as many transitions as the whole
--- system.
+-- The class number of a state is the number of the quotient state that represents it. Consider the reachable states
+-- with class numbers less than n and the reachable states with the class number n. Together, these states have at most
+-- as many transitions as the whole system.
 pub rows_fit : (rows : Numbered) (n : ℕ) → length (rows_of (is_below rows n) rows.l.places)
     + length (rows_of (is_member rows n) rows.l.places) ≤ length rows.l.places
 rows_fit rows n = let part = rows_part _ _ _ (below_next rows n) rows.l.places in
     omega (arith, part, rows_few (is_below rows (n + 1)) rows.l.places)
 
--- Quotient transitions are transitions between quotient states, which represent the classes of states. Suppose that the
--- quotient transitions of the classes with numbers less than n are pairwise different, and that the quotient
--- transitions of the class n are pairwise different, too. Then the quotient transitions of the classes with numbers
--- less than n + 1 are pairwise different.
+-- A quotient transition is a transition between quotient states, which represent the classes of states. Suppose that
+-- the quotient transitions in the list xs come from the classes with numbers less than n, and are pairwise different.
+-- Suppose also that the quotient transitions in the list ys come from the class n, and are pairwise different. Then the
+-- quotient transitions in xs followed by ys are pairwise different.
 pub once_next : (rows : Numbered) (n : ℕ) (xs ys : List Triple) → HasShown rows (is_below rows n) xs →
     HasShown rows (is_member rows n) ys → AllPairs (λ x y. x ≢ y) xs → AllPairs (λ x y. x ≢ y) ys →
     AllPairs (λ x y. x ≢ y) (xs ++ ys)
@@ -166,16 +167,17 @@ once_next rows n xs ys h g one other i j d low high =
         let (_, _, two, _) = place_of rows t x e in
         grind (arith, nat_tests, low, is, ap source_of one, ap source_of two)
 
--- `was_read` is true if the state s is a member of the class n, and is among the first k states that the loop of
--- `read_class` takes from the block of this class.
+-- The loop of `read_class` takes the states of the block of a class one after the other. `was_read` is true if the
+-- state s is a member of the class n, and is among the first k states that the loop takes.
 abbrev pub was_read : Numbered → ℕ → List ℕ → (ℕ → ℕ) → ℕ → ℕ → Bool
 was_read rows n members at k s =
     is_member rows n s && ltb (cond (eqb (at s + 1) (length members)) 0 (at s + 1)) k
 
--- `IsReadTo` holds if the loop of `read_class` has taken the first k states from the block of the class n. The list
--- `class` must have exactly the quotient transitions (transitions between quotient states) of the reachable states
--- among these k states. The number of visits (counted reads of transitions) must be at most the number of transitions
--- of these reachable states.
+-- The loop of `read_class` takes the states of the block of a class one after the other. `IsReadTo` is the invariant of
+-- this loop after it has taken the first k states of the block of the class n. It has two main conditions. First, the
+-- list `class` has exactly the quotient transitions (transitions between quotient states) of the reachable states among
+-- these k states. Second, the number of visits (counted reads of transitions) is at most the number of transitions of
+-- these reachable states.
 pub record IsReadTo (rows : Numbered) (n : ℕ) (members : List ℕ) (k : ℕ) (class : List Triple)
     (old new : Counts) : Type 0 where
   pub below : n < length rows.n.classes.items
@@ -189,15 +191,16 @@ module _ {rows : Numbered} {n : ℕ} {members : List ℕ} {k : ℕ} {class : Lis
   abbrev read : ℕ → ℕ → Bool
   read = was_read rows n members h.are.at
 
-  -- Each member of the class n is in the list of the states of its block.
+  -- The members of a class are the reachable states of its block. Each member of the class n is in the list of the
+  -- states of this block.
   there : (s : ℕ) → IsTrue (is_member rows n s) → (h.are.at s < length members) × (slice_index members (h.are.at s) ≡ s)
   there s m =
       let below = marked_below rows.l.states rows.n.reached.items s h.numbered.reached_long in
       grind (arith, nat_tests, h.numbered.class s n, h.below, h.are.all s, below, h.numbered.blocks_long)
 
   -- The loop of `read_class` reads the transitions of the members of a class, one member after the other. The members
-  -- that were read so far have at most as many transitions as all members of the class. When all members have been
-  -- read, the list `class` has exactly the quotient transitions (transitions between quotient states) of the class.
+  -- that were read so far have at most as many transitions as all members of the class. After all members were read,
+  -- the list `class` has exactly the quotient transitions (transitions between quotient states) of the class.
   pub read_few : (i : ℕ) → length (rows_of (read i) rows.l.places) ≤ length (rows_of (is_member rows n) rows.l.places)
   read_few i = let rest = λ (s : ℕ). is_member rows n s && not (read i s) in
       omega (arith, rows_part (is_member rows n) (read i) rest (λ s. grind (arith, nat_tests)) rows.l.places)
@@ -216,8 +219,10 @@ module _ {rows : Numbered} {n : ℕ} {members : List ℕ} {k : ℕ} {class : Lis
     pub next_below : next < rows.l.states
     next_below = omega (arith, (h.are.each j within).0, h.numbered.blocks_long)
 
-    -- Suppose that `next` is not reachable, so that its transitions are not read. Then the invariant `IsReadTo` holds
-    -- for the first k + 1 states of the block, with the same list `class`.
+    -- The loop of `read_class` takes the states of a block one after the other. Suppose that it has taken k states so
+    -- far, and that the state `next`, which it takes next, is not reachable. Then the transitions of `next` are not
+    -- read, and the invariant of the loop (`IsReadTo`) holds for the first k + 1 states of the block, with the same
+    -- list `class`.
     pub read_over : is_reached rows next ≡ false → IsReadTo rows n members (k + 1) class old mid
     read_over out =
         let same : (s : ℕ) → read k s ≡ read (k + 1) s = λ s. grind (arith, nat_tests, there s) in
@@ -233,8 +238,9 @@ module _ {rows : Numbered} {n : ℕ} {members : List ℕ} {k : ℕ} {class : Lis
       next_parts : Parts (read (k + 1)) (read k) (λ t. eqb t next)
       next_parts s = grind (arith, nat_tests, there s, next_member, h.are.each j)
 
-      -- The number of transitions of `next`, plus the number of transitions of the members that were read before, is at
-      -- most the number of transitions of all members of the class.
+      -- The loop of `read_class` reads the transitions of the members of a class, one member after the other. Let
+      -- `next` be the member that is read next. The number of transitions of `next`, plus the number of transitions of
+      -- the members that were read before, is at most the number of transitions of all members of the class.
       pub fits : length (rows_of (read k) rows.l.places) + length (row_of next rows.l.places)
           ≤ length (rows_of (is_member rows n) rows.l.places)
       fits = omega (arith, rows_part _ _ _ next_parts rows.l.places, read_few (k + 1))
@@ -254,9 +260,10 @@ module _ {rows : Numbered} {n : ℕ} {members : List ℕ} {k : ℕ} {class : Lis
               visits_then h.visits row (omega (arith, few)) in
               search (rules, h, shown_next, visits)
 
-          -- The quotient leaves out inert transitions. If no transition of the state `next` is left out, then the
-          -- quotient transitions (transitions between quotient states) of the members that have been read, including
-          -- `next`, are all quotient transitions of the class.
+          -- The quotient leaves out inert transitions. A quotient transition is a transition between quotient states.
+          -- Suppose that the loop of `read_class` has just read the transitions of the member `next` of a class, and
+          -- that no transition of `next` is left out. Then the members of the class that have been read, including
+          -- `next`, have all quotient transitions of the class.
           pub read_enough : ShowEachOther rows → length (shown_by rows next) ≡ length (row_of next rows.l.places) →
               HasShown rows (is_member rows n) more
           read_enough also whole = record {

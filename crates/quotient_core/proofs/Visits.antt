@@ -1,5 +1,6 @@
 -- A visit is one counted read of a transition. This file has lemmas about the number of visits that two successive
--- calls make, and about the number of transitions of the states in a set. None of the calls begins a round.
+-- calls make. It also has lemmas about the number of transitions of the states in a set. None of the calls begins a
+-- round.
 use Rattle.std.proofs.Common.{rules, ◌≡◌, ℕ, ◌+◌, ◌≤◌, Bool, cond, List, length}
 use Rattle.std.proofs.lemmas.List.Sums.{length-filter, count_by-le-length}
 use Rattle.lts.proofs.CallerLemmas.{length-filter-sum}
@@ -16,9 +17,9 @@ visits_then before after fits = search rules
 pub visits_at_most : {old new : Counts} {few most : ℕ} → Costs old new 0 0 few → few ≤ most → Costs old new 0 0 most
 visits_at_most h low = search rules
 
--- Suppose that at some time, the meter could count `all` more visits (reads of transitions) without overflow. Suppose
--- also that it has counted at most `few` visits since then, and that `few + row` is at most `all`. Then it can count
--- `row` more visits without overflow.
+-- The meter counts visits (reads of transitions). Suppose that at some time, the meter had room for `all` more visits
+-- without overflow. Suppose also that it has counted at most `few` visits since then, and that `few + row` is at most
+-- `all`. Then the meter still has room for `row` more visits without overflow.
 pub room_after : {old mid : Counts} {all few row : ℕ} → HasRoomFor old 0 all → Costs old mid 0 0 few → few + row ≤ all →
     HasRoomFor mid 0 row
 room_after room cost fits = search rules

@@ -1,6 +1,6 @@
--- The class number of a reachable state is the quotient state that represents it. This file defines the class numbers
--- of all reachable states. One pass over the states in ascending order gives each state its class number. Other crates
--- use `IsMarked`, `AreClasses` and `IsNumbering`.
+-- Defines the class numbers of all reachable states. The class number of a reachable state is the number of the
+-- quotient state that represents it. One pass over the states in ascending order gives each reachable state its class
+-- number. Other crates use `IsMarked`, `AreClasses` and `IsNumbering`.
 use Rattle.std.specs.Prelude.{◌≡◌, ◌≢◌, ◌⊎◌, ◌↔◌, ℕ, ◌<◌, ◌≤◌, Bool, false, IsTrue, [], ◌∷◌, ◌++◌, List, length}
 use Rattle.std.specs.List.{slice_index, slice_index_or, slice_set}
 use Rattle.theory.specs.System.{System, Reachable}
@@ -24,12 +24,13 @@ abbrev pub AreClasses : Relation → Grouped → List ℕ → Type 0
 AreClasses rel g blocks = let A = system_of g in
     EachTwo A (λ s t. (slice_index blocks s ≡ slice_index blocks t) ↔ Bisimilar rel A s A t)
 
--- `AreNumbered` holds if the lists in n fit together. Each state must have a block ID, a mark and a class number, where
--- `states` is the number of states. The mark of a state says whether the state is reachable. The class number of a
--- reachable state is the quotient state that represents it. The list `classes` has a block ID for each class, and these
--- block IDs must be less than the number of blocks. For each marked state, the class number must be less than the
--- number of classes. For each marked state, the entry of the list `classes` at the index i must equal the block ID of
--- the state if and only if i is the class number of the state.
+-- The record n has a block ID, a mark and a class number for each state. The mark of a state says whether the state is
+-- reachable. The class number of a reachable state is the number of the quotient state that represents it. The list
+-- `classes` of n has a block ID for each class. `AreNumbered` holds if these lists fit together, which means that four
+-- conditions hold. First, the lists of the block IDs, of the marks and of the class numbers each have `states` entries.
+-- Second, each block ID in the list `classes` is less than the number of blocks. Third, the class number of each marked
+-- state is less than the number of classes. Fourth, the list `classes` has the block ID of each marked state at one
+-- index only, and this index is the class number of the state.
 pub record AreNumbered (states : ℕ) (n : Numbering) : Type 0 where
   pub blocks_long : length n.blocks.block_ids ≡ states
   pub reached_long : length n.reached.items ≡ states
@@ -39,10 +40,11 @@ pub record AreNumbered (states : ℕ) (n : Numbering) : Type 0 where
   pub class : (s i : ℕ) → IsMarked n.reached.items s → i < length n.classes.items →
       (slice_index n.classes.items i ≡ slice_index n.blocks.block_ids s) ↔ (slice_index n.numbers.items s ≡ i)
 
--- `IsNumbering` holds if exactly the reachable states are marked, and if the lists of marks, class numbers and classes
--- fit together (`AreNumbered`). The class number of each reachable state must be the quotient state that represents it.
--- The number of classes must equal the number of leaders, which are the states that represent the classes, and must be
--- at most the number of states.
+-- `IsNumbering` holds under five conditions. First, the lists in n fit together (`AreNumbered`). Second, exactly the
+-- reachable states are marked. Third, the class number of each reachable state is the number of the quotient state that
+-- represents it. Fourth, the number of classes equals the number of leaders. The leader of the class of the first state
+-- is the first state. The leader of any other class is the smallest reachable state of this class. Fifth, the number of
+-- classes is at most the number of states.
 pub record IsNumbering (rel : Relation) (A : System) (n : Numbering) : Type 0 where
   pub numbered : AreNumbered A.states n
   pub reached : (s : ℕ) → IsMarked n.reached.items s ↔ Reachable A s
@@ -50,10 +52,11 @@ pub record IsNumbering (rel : Relation) (A : System) (n : Numbering) : Type 0 wh
   pub counted : HowMany (IsLeader rel A) (length n.classes.items)
   pub few : length n.classes.items ≤ A.states
 
--- `TakesState` holds if the loop has given a class number to the next state, which is in the block b. The class number
--- of a state is the quotient state that represents it. The class numbers are `old` before this step of the loop, and
--- `new` after it. If the state is the first reachable state of its block, the block gets the next class number. In any
--- case, the state gets the class number that the table `by_block` then has for the block.
+-- A loop goes through the states in ascending order and gives them class numbers. The class number of a reachable state
+-- is the number of the quotient state that represents it. `TakesState` holds if the loop has the data `old` before it
+-- processes the next state, which is in the block b, and the data `new` afterwards. If this state is the first
+-- reachable state of its block, the block gets the next class number. In any case, the state gets the class number that
+-- the table `by_block` of `new` has for its block.
 pub record TakesState (b : ℕ) (reached : Bool) (old new : Numbers) : Type 0 where
   pub numbers : new.numbers.items ≡ old.numbers.items ++ slice_index new.by_block.items b ∷ []
   pub classes :

@@ -11,22 +11,25 @@ use Rattle.lts.specs.Meter.{Counts, Costs}
 use Rattle.quotient_core.specs.Numbers.{IsMarked}
 use Rattle.quotient_core.specs.declared.search.Search.{Search}
 
--- `is_ahead` is true if the scan of the states in ascending order has not yet passed the state s, or if s is not
--- marked. Then the search may still read the transitions of s.
+-- The search scans the states in ascending order, and has passed the states that are less than `next`. `is_ahead` is
+-- true if the scan has not yet passed the state s, or if s is not marked. In both cases, the search may still read the
+-- transitions of s.
 abbrev pub is_ahead : ℕ → List Bool → ℕ → Bool
 is_ahead next marked s = not (nat_lt s next && slice_index_or marked s false)
 
--- `MarksState` states how the search marks the state s. Afterwards, s is marked. If s was not marked before, and the
--- scan of the states in ascending order has already passed s, then s is appended to the queue. Otherwise, the queue
--- does not change.
+-- The search scans the states in ascending order, and has passed the states that are less than `next`. `MarksState`
+-- states how the search marks the state s. Afterwards, s is marked. If s was not marked before, and the scan has
+-- already passed s, then s is appended to the queue. Otherwise, the queue does not change.
 pub record MarksState (s next : ℕ) (old new : Search) : Type 0 where
   pub marked : new.marked.items ≡ slice_set old.marked.items s true
   pub queue : new.queue.items
       ≡ old.queue.items ++ cond (nat_lt s next && not (slice_index_or old.marked.items s false)) (s ∷ []) []
 
--- `Searches` is the invariant of the search. Each marked state is reachable, and each state in the queue is marked. The
--- search scans the states in ascending order. For each marked state s that the scan has passed and that is not in the
--- queue, all targets of the transitions of s are marked.
+-- `Searches` is the invariant of the search for the reachable states. The search scans the states in ascending order,
+-- and has passed the states that are less than `next`. The invariant has four conditions. First, the first state of the
+-- system is marked. Second, each marked state is reachable. Third, each state in the queue `waiting` is marked. Fourth,
+-- consider a marked state that the scan has passed and that is not in the queue. All targets of the transitions of this
+-- state are marked.
 pub record Searches (g : Grouped) (marked : List Bool) (next : ℕ) (waiting : List ℕ) : Type 0 where
   pub size : length marked ≡ g.states
   pub first : IsMarked marked g.first
@@ -35,15 +38,17 @@ pub record Searches (g : Grouped) (marked : List Bool) (next : ℕ) (waiting : L
   pub followed : (s t : ℕ) (a : List ℕ) → s < next → IsMarked marked s → Step (system_of g) s a t →
       Contains waiting s ⊎ IsMarked marked t
 
--- `places_ahead` is the number of transitions that the search may still read. These transitions are the transitions of
--- the states for which `is_ahead` is true, and the transitions of the states in the queue.
+-- `places_ahead` is the number of transitions that the search may still read. The search scans the states in ascending
+-- order. It may still read the transitions of each state that the scan has not yet passed or that is not marked
+-- (`is_ahead`), and the transitions of the states in the queue.
 abbrev pub places_ahead : List Triple → ℕ → List Bool → List ℕ → ℕ
 places_ahead places next marked waiting =
     length (filter (λ e. is_ahead next marked (source_of e)) places) + sum_by (λ s. length (row_of s places)) waiting
 
--- `ReadsOnce` holds if three conditions are satisfied. First, the invariant of the search holds (`Searches`). Second,
--- no round has begun. Third, the number of visits (counted reads of transitions) is at most the number of all
--- transitions minus the number of transitions that may still be read (`places_ahead`).
+-- `ReadsOnce` holds under three conditions. First, the invariant of the search for the reachable states holds
+-- (`Searches`). Second, no round has begun. Third, the number of visits (counted reads of transitions) that the search
+-- has made is at most the number of all transitions minus the number of transitions that it may still read
+-- (`places_ahead`).
 pub record ReadsOnce (g : Grouped) (marked : List Bool) (next : ℕ) (waiting : List ℕ) (old new : Counts) : Type 0 where
   pub search : Searches g marked next waiting
   pub few : places_ahead g.places next marked waiting ≤ length g.places

@@ -1,21 +1,22 @@
 -- Private. Defines the transitions of the quotient as triples (source, label ID, target). The source and the target are
--- class numbers, which are the quotient states that represent reachable states. These triples are called quotient
--- transitions below. The row of a state is the list of its transitions.
+-- class numbers. The class number of a reachable state is the number of the quotient state that represents it. These
+-- triples are called quotient transitions below. The row of a state is the list of its transitions.
 use Rattle.std.specs.Prelude.{◌≡◌, ◌↔◌, ℕ, ◌≤◌, ◌==◌, ◌&&◌, Bool, false, not, IsTrue, Option, None, Some, List, length}
 use Rattle.std.specs.Prelude.{map, slice_index}
 use Rattle.std.specs.List.{Contains, filter, slice_index_or}
 use Rattle.lts.specs.Lts.{Triple, Grouped, source_of, label_of, target_of, row_of}
 use Rattle.quotient_core.specs.declared.numbering.Numbering.{Numbering}
 
--- `Numbered` is a system with the class numbers of its reachable states, which are the quotient states that represent
--- them. If there is a label ID `dropped`, the quotient leaves out the transitions that have this label and lead from a
--- class to itself.
+-- `Numbered` has a system l, the class numbers n of its states, and an optional label ID `dropped`. The class number of
+-- a reachable state is the number of the quotient state that represents it. If there is a label ID `dropped`, the
+-- quotient leaves out the transitions that have this label and lead from a class to itself.
 pub record Numbered : Type 0 where
   pub l : Grouped
   pub n : Numbering
   pub dropped : Option ℕ
 
--- `number_of` returns the class number of the state s: if s is reachable, this is the quotient state that represents s.
+-- `number_of` returns the class number of the state s. If s is reachable, its class number is the number of the
+-- quotient state that represents s.
 abbrev pub number_of : Numbered → ℕ → ℕ
 number_of rows s = slice_index rows.n.numbers.items s
 
@@ -41,16 +42,14 @@ shown_by rows s =
 abbrev pub is_reached : Numbered → ℕ → Bool
 is_reached rows s = slice_index_or rows.n.reached.items s false
 
--- `is_member` is true if the state s is reachable and its class number, which is the quotient state that represents s,
--- is i.
+-- `is_member` is true if the state s is reachable and the quotient state i represents s.
 abbrev pub is_member : Numbered → ℕ → ℕ → Bool
 is_member rows i s = is_reached rows s && (number_of rows s == i)
 
--- A quotient transition is a transition between quotient states. The quotient transitions of a state are those that
--- come from the transitions of the state (`shown_by`). Let s and t be two reachable states that the same quotient state
--- represents. Suppose that s has as many quotient transitions as it has transitions, so that no transition of s is left
--- out. Then each quotient transition of t must also be a quotient transition of s. `ShowEachOther` holds if this is
--- true for any two such states s and t.
+-- A quotient transition is a transition between quotient states. The quotient transitions of a state come from the
+-- transitions of this state (`shown_by`). `ShowEachOther` holds if the following is true for any two reachable states s
+-- and t that the same quotient state represents. If s has as many quotient transitions as it has transitions, so that
+-- no transition of s is left out, then each quotient transition of t is also a quotient transition of s.
 abbrev pub ShowEachOther : Numbered → Type 0
 ShowEachOther rows =
     (s t : ℕ) → IsTrue (is_reached rows s) → IsTrue (is_reached rows t) → number_of rows s ≡ number_of rows t →
@@ -61,9 +60,9 @@ ShowEachOther rows =
 abbrev pub rows_of : (ℕ → Bool) → List Triple → List Triple
 rows_of of places = filter (λ e. of (source_of e)) places
 
--- `HasShown` holds if the list `shown` has exactly the quotient transitions (transitions between quotient states) of
--- the states that satisfy the predicate `of`. The length of `shown` must be at most the number of transitions of these
--- states.
+-- A quotient transition is a transition between quotient states. `HasShown` holds under two conditions. First, the list
+-- `shown` has exactly the quotient transitions of the states that satisfy the predicate `of`. Second, the length of
+-- `shown` is at most the number of transitions of these states.
 pub record HasShown (rows : Numbered) (of : ℕ → Bool) (shown : List Triple) : Type 0 where
   pub exactly : (x : Triple) → Contains shown x ↔ ((s : ℕ) × IsTrue (of s) × Contains (shown_by rows s) x)
   pub few : length shown ≤ length (rows_of of rows.l.places)

@@ -1,5 +1,5 @@
-//! A view of a system in which each reachable state is replaced by its class number, which is the state of the quotient
-//! that represents it.
+//! A view of a system in which each reachable state is replaced by its class number. The class number of a state is the
+//! number of the quotient state that represents it.
 ghost use Rattle.std.specs.Prelude.{◌≡◌, ◌+◌, ◌<◌, length, slice_index};
 ghost use Rattle.lts.specs.Lts.{label_of, target_of, place_at, IsLts, IsRow};
 ghost use Rattle.lts.specs.Meter.{HasRoomFor, Costs};
@@ -11,8 +11,9 @@ use crate::numbering::Numbering;
 use lts::{Lts, Meter};
 use std::marker::Model;
 
-/// A system in which each reachable state is replaced by its class number, which is the quotient state that represents
-/// it. The view leaves out transitions that have the label ID `dropped` and lead from a class to itself.
+/// A view of a system in which each reachable state is replaced by its class number. The class number of a state is the
+/// number of the quotient state that represents it. The view leaves out transitions that have the label ID `dropped`
+/// and lead from a class to itself.
 #[derive(Drop)]
 pub(crate) struct NumberedRows<'a, M: Meter> {
     l: &'a Lts<M>,
@@ -32,9 +33,9 @@ impl<'a, M: Meter> Model for NumberedRows<'a, M> {
 }
 
 impl<'a, M: Meter> NumberedRows<'a, M> {
-    /// Returns a view of the system `l` in which each reachable state is replaced by its class number, which is the
-    /// quotient state that represents it. The argument `numbering` has these numbers. The view leaves out transitions
-    /// that have the label ID `dropped` and lead from a class to itself.
+    /// Returns a view of the system `l` in which each reachable state is replaced by its class number. The argument
+    /// `numbering` has the class number of each reachable state, which is the number of the quotient state that
+    /// represents it. The view leaves out transitions that have the label ID `dropped` and lead from a class to itself.
     pub fn new(l: &'a Lts<M>, numbering: &'a Numbering, dropped: Option<u32>) -> NumberedRows<'a, M>
         requires { AreNumbered l.now.states numbering.now }
         ensures { result ≡ record { l = l.now; n = numbering.now; dropped = dropped } }
@@ -47,7 +48,8 @@ impl<'a, M: Meter> NumberedRows<'a, M> {
     }
 
     /// This method is a lemma, and does nothing when it runs. Its contract states the invariants of the system and of
-    /// the class numbers, which are the quotient states for the states of the system.
+    /// the class numbers of its states. The class number of a reachable state is the number of the quotient state that
+    /// represents it.
     pub fn invariants(&self)
         ensures lts { IsLts self.now.l }
         ensures numbered { AreNumbered self.now.l.states self.now.n }
@@ -62,8 +64,8 @@ impl<'a, M: Meter> NumberedRows<'a, M> {
         self.l.edges()
     }
 
-    /// Returns the block ID of each class, in the order of the class numbers, which are the quotient states for the
-    /// classes.
+    /// Returns the list of the block IDs of all classes. The block ID at the index i belongs to the class that the
+    /// quotient state i represents.
     pub fn classes(&self) -> &[u32]
         ensures { result.now ≡ self.now.n.classes.items }
     {
@@ -90,7 +92,8 @@ impl<'a, M: Meter> NumberedRows<'a, M> {
         self.numbering.reached[s as usize]
     }
 
-    /// Returns the class number of the state `s`: if `s` is reachable, this is the quotient state that represents `s`.
+    /// Returns the class number of the state `s`. If `s` is reachable, its class number is the number of the quotient
+    /// state that represents `s`.
     #[inline(always)]
     pub fn number(&self, s: u32) -> u32
         requires { s < self.now.l.states }
@@ -109,9 +112,10 @@ impl<'a, M: Meter> NumberedRows<'a, M> {
         self.l.row(s)
     }
 
-    /// Reads the transition at the index `k` of the list of all transitions. Returns this transition with the class
-    /// numbers of its source and its target, which are the quotient states that represent them. The class number of the
-    /// source is the argument `number`. This method counts one visit (read of a transition).
+    /// Reads the transition at the index `k` of the list of all transitions. Returns the class number of its source,
+    /// its label ID, and the class number of its target. The class number of a state is the number of the quotient
+    /// state that represents it. The caller passes the class number of the source as the argument `number`. This method
+    /// counts one visit (read of a transition).
     #[inline(always)]
     pub fn triple(&self, number: u32, k: u32, m: &mut M) -> (u32, u32, u32)
         requires place { k < length self.now.l.places }

@@ -1,6 +1,6 @@
-//! Gives each reachable state its class number, which is the quotient state that represents it. The class of the first
-//! state gets the number 0. The other classes get the numbers 1, 2 and so on, in the order of their least reachable
-//! members.
+//! Gives each reachable state its class number, which is the number of the quotient state that represents it. The class
+//! of the first state gets the number 0. The other classes get the numbers 1, 2 and so on, in the order of their least
+//! reachable members.
 ghost use Rattle.std.specs.Prelude.{◌≡◌, ◌↔◌, ℕ, ◌<◌, length, IfOk, OnOk};
 ghost use Rattle.theory.specs.System.{Reachable};
 ghost use Rattle.theory.specs.declared.relation.Relation.{Relation};
@@ -11,36 +11,38 @@ use lts::{Lts, Memory, Meter};
 use partition::Blocks;
 use std::alloc::Global;
 
-/// The value in the table `by_block` for a block that has no class number (no quotient state for the block) yet.
+/// The value in the table `by_block` for a block that has no class number yet. The class number of a block is the
+/// number of the quotient state that represents the reachable states of this block.
 const NONE: u32 = u32::MAX;
 
-/// The class numbers of the reachable states, which are the quotient states that represent them, and the block of each
-/// class.
+/// The class numbers of the reachable states, and the block of each class. The class number of a reachable state is the
+/// number of the quotient state that represents it.
 #[derive(Drop)]
 pub struct Numbering {
     pub(crate) blocks: Blocks,
     /// Whether each state is reachable.
     pub(crate) reached: Vec<bool>,
-    /// The class number of each reachable state, which is the quotient state that represents it. The numbers of
-    /// unreachable states are not used.
+    /// The class number of each reachable state, which is the number of the quotient state that represents it. The
+    /// numbers of unreachable states are not used.
     pub(crate) numbers: Vec<u32>,
     /// The block ID of each class. The class with the number i is at the index i.
     pub(crate) classes: Vec<u32>,
 }
 
-/// The class numbers (the quotient states for the classes) that the loop of `number` has given so far, and the blocks
-/// of these classes. The loop processes the states in ascending order.
+/// The class numbers that the loop of `number` has given so far, and the blocks of the classes with these numbers. A
+/// class number is the number of the quotient state that represents the class. The loop processes the states in
+/// ascending order.
 #[derive(Drop)]
 struct Numbers {
-    /// The class number of each block (the quotient state for this block), or `NONE` if the block has no class number
-    /// yet.
+    /// The class number of each block, which is the number of the quotient state that represents the reachable states
+    /// of the block. The entry is `NONE` if the block has no class number yet.
     by_block: Vec<u32>,
     numbers: Vec<u32>,
     classes: Vec<u32>,
 }
 
-/// Gives each reachable state its class number, which is the quotient state that represents it. The blocks must be the
-/// classes of bisimilar states, for strong or for branching bisimilarity.
+/// Gives each reachable state its class number, which is the number of the quotient state that represents it. The
+/// blocks must be the classes of bisimilar states, for strong or for branching bisimilarity.
 pub fn number<M: Meter>(
     alloc: Global,
     l: &Lts<M>,
@@ -76,9 +78,9 @@ pub fn number<M: Meter>(
 }
 
 impl Numbers {
-    /// Takes the next state of the loop, which is in the block `b`. If this state is the first reachable state of its
-    /// block, the block gets the next class number, which is the next state of the quotient. The state gets the class
-    /// number of its block.
+    /// Processes the next state of the loop, which is in the block `b`. If this state is the first reachable state of
+    /// its block, the block gets the next class number. The state then gets the class number of its block. A class
+    /// number is the number of a quotient state.
     fn add(&mut self, b: u32, is_reached: bool) -> Result<(), Memory>
         requires block { b < length self.old.by_block.items }
         requires room { length self.old.classes.items < NONE }

@@ -1,5 +1,5 @@
-//! Builds the quotient of a system from the class numbers of its states. The class number of a state is the quotient
-//! state that represents it.
+//! Builds the quotient of a system from the class numbers of its states. The class number of a state is the number of
+//! the quotient state that represents it.
 ghost use Rattle.std.specs.Prelude.{◌≡◌, ◌↔◌, ◌<◌, ◌≤◌, true, length, IfOk};
 ghost use Rattle.theory.specs.Quotient.{IsDropped, Quotient};
 ghost use Rattle.lts.specs.Meter.{HasRoomFor, Costs};
@@ -15,7 +15,7 @@ use std::alloc::Global;
 use theory::Relation;
 
 /// Builds the quotient of the system `l` modulo the relation `r`. The argument `numbering` has the class number of each
-/// reachable state. The class number of a state is the quotient state that represents it.
+/// reachable state. The class number of a state is the number of the quotient state that represents it.
 pub fn quotient_of<M: Meter>(
     alloc: Global,
     l: &Lts<M>,
@@ -39,9 +39,9 @@ pub fn quotient_of<M: Meter>(
     Lts::with_labels_of(l, 0, numbering.classes.len() as u32, shown)
 }
 
-/// Returns the ID of the label that the quotient drops. The quotient leaves out all transitions with this label that
-/// lead from a class to itself. For branching bisimilarity, the label is the internal label, if the system has this
-/// label. For strong bisimilarity, the quotient drops no label.
+/// Returns the ID of the label that the quotient drops, or `None` if it drops no label. The quotient leaves out all
+/// transitions with the dropped label that lead from a class to itself. For branching bisimilarity, the dropped label
+/// is the internal label, if the system has this label. For strong bisimilarity, the quotient drops no label.
 fn dropped(r: Relation, labels: &Labels) -> Option<u32>
     ensures { (x : Triple) → label_of x < length labels.now →
         (is_left_out result x ≡ true) ↔ IsDropped r (transition_of labels.now x) }

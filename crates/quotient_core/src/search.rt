@@ -66,9 +66,10 @@ impl Search {
         Ok(search)
     }
 
-    /// Marks the state `s`, unless `s` is already marked. The search scans the states in the order of their numbers,
-    /// and `next` is the state that the scan reaches next. If the scan has already passed `s`, which means that `s` is
-    /// less than `next`, the call also puts `s` into the queue.
+    /// If the state `s` is already marked, the call does nothing. Otherwise, it marks `s`. The search scans the states
+    /// in the order of their numbers, and `next` is the state that the scan reaches next. If the scan has already
+    /// passed `s`, which means that `s` is less than `next`, the call also puts the newly marked state `s` into the
+    /// queue.
     fn mark(&mut self, s: u32, next: u32) -> Result<(), Memory>
         requires { s < length self.old.marked.items }
         ensures { OnOk result (MarksState s next self.old self.new) }

@@ -1,6 +1,6 @@
 //! Lists the transitions of the quotient as triples (source, label ID, target). The source and the target are class
-//! numbers, which are the quotient states that represent reachable states. These triples are called quotient
-//! transitions below.
+//! numbers. The class number of a reachable state is the number of the quotient state that represents it. These triples
+//! are called quotient transitions below.
 ghost use Rattle.std.specs.Prelude.{◌≡◌, ◌≢◌, ◌↔◌, ℕ, ◌+◌, ◌<◌, ◌≤◌, ◌==◌, ◌++◌, cond, IsTrue, length, IfOk, OnOk};
 ghost use Rattle.std.specs.List.{AllPairs};
 ghost use Rattle.lts.specs.Meter.{HasRoomFor, Costs};
@@ -11,9 +11,9 @@ use crate::numbered_rows::NumberedRows;
 use lts::{Memory, Meter, Transitions};
 use std::alloc::Global;
 
-/// Returns the transitions of the quotient in ascending order, without repetitions. The quotient leaves out inert
-/// transitions (for branching bisimilarity, internal transitions between bisimilar states). The caller must ensure
-/// `ShowEachOther`: if no transition of a state is left out, then this state has all quotient transitions of each state
+/// Returns the transitions of the quotient in ascending order, without repetitions. For branching bisimilarity, the
+/// quotient leaves out inert transitions, which are internal transitions between bisimilar states. The caller must
+/// ensure `ShowEachOther`: a state of which no transition is left out has all quotient transitions of each other state
 /// that the same quotient state represents.
 pub(crate) fn shown_transitions<M: Meter>(
     alloc: Global,
@@ -38,8 +38,8 @@ pub(crate) fn shown_transitions<M: Meter>(
     Ok(shown)
 }
 
-/// Appends to `shown` the quotient transitions (transitions between quotient states) of one class. The caller must
-/// ensure that `shown` has at most `most` transitions afterwards.
+/// Appends the list `class`, which has the quotient transitions (transitions between quotient states) of one class, to
+/// `shown`. The caller must ensure that `shown` has at most `most` transitions afterwards.
 fn add_class(shown: &mut Transitions, class: &[(u32, u32, u32)], most: u32) -> Result<(), Memory>
     requires room { length shown.old + length class.now ≤ most }
     ensures { OnOk result (shown.new ≡ shown.old ++ class.now) }
@@ -84,11 +84,11 @@ fn read_class<M: Meter>(
     Ok(())
 }
 
-/// Returns the index of the state that the loop of `read_class` reads next. The loop reads the transitions of the
-/// states of a block, one state after the other, and has read `k` states so far. The last state is read first, and the
-/// other states follow in ascending order. In most systems, inert transitions lead either mostly to states with higher
-/// numbers, or mostly to states with lower numbers. Then the first or the last state of a block has no inert
-/// transition.
+/// Returns the index of the state that the loop of `read_class` takes next. The loop takes the states of a block one
+/// after the other, and has taken `k` states so far. It takes the last state of the block first, and the other states
+/// follow in ascending order. In most systems, inert transitions lead either mostly to states with higher numbers, or
+/// mostly to states with lower numbers. Then the first or the last state of a block usually has no inert transition,
+/// and the loop can stop early.
 fn last_first(k: usize, members: usize) -> usize
     requires { k < members }
     ensures below { result < members }

@@ -1,6 +1,6 @@
--- A move of the search is, for example, the push of a state or the completion of a component. Suppose that a move does
--- not change the states below some index of the stack. Then the invariant still holds for these states after the move,
--- even if the move interns more signatures.
+-- A move of the search is, for example, the push of a state or the completion of a strongly connected component.
+-- Suppose that a move does not change the states below some index of the stack. These lemmas show that the invariant of
+-- the search then still holds for these states after the move. The move may also intern more signatures.
 use Rattle.std.proofs.Common.{◌≡◌, ◌⊎◌, ◌↔◌, ℕ, ◌<◌, ◌≤◌, List, length, slice_index, inl, inr, arith, rules, get_or}
 use Rattle.std.specs.List.{All}
 use Rattle.lts.specs.Lts.{Triple, source_of, place_at}
@@ -14,17 +14,21 @@ use Rattle.inert.specs.Search.{ComponentHasPair, IsToBeRead, IsBeingSearched, Is
 use Rattle.inert.specs.Search.{IsInternedItem, IsRoot, AreRoots, SearchInvariant, OnStack, Completed, Frame, Root, Item}
 use Rattle.inert.specs.Search.{Pair, Interned, VisitState, IsCacheable}
 
--- The stack is divided into components, which collect items: pairs (label ID, block) and signature IDs. A signature ID
--- represents all pairs of its signature. `AreSound` holds if each pair that some item represents is in the signature of
--- some state of the component that has collected the item.
+-- The stack is divided into components, which are strongly connected sets of states. Each component collects items:
+-- pairs (label ID, block) and signature IDs. A signature ID represents all pairs of the signature with this ID.
+-- `AreSound` holds if each item satisfies the following condition (`IsSound`). The signature of some state of the
+-- component that has collected the item contains all pairs that the item represents.
 abbrev pub AreSound : Under → List (List (ℕ × ℕ)) → Search → Type 0
 AreSound u signatures w = (j : ℕ) → j < length w.items → IsSound u signatures w j
 
--- `KeepsStack` holds if a move from the search w to the search `new` does not change the states below the index n of
--- the stack. The components of these states and the items of these components must not change either, where an item is
--- a pair (label ID, block) or a signature ID. A root is the first state of a component on the stack. Each root of `new`
--- must be a root of w too, or must be at the index n of the stack or above. In the second case, the items of its
--- component must come after all items of w.
+-- The stack is divided into components, which are strongly connected sets of states. Each component collects items:
+-- pairs (label ID, block) and signature IDs. The root of a component is its first state on the stack. `KeepsStack`
+-- compares the data of the search before a move (w) and after the move (`new`). It holds under five conditions. First,
+-- the move does not change the states below the index n of the stack. Second, if a component of w has a state below the
+-- index n, all of its states are below the index n. Third, the move does not change the items that these components
+-- have collected. Fourth, each root of `new` is a root of w too, or it is at the index n of the stack or above and the
+-- items of its component come after all items of w. Fifth, each state that is completed in w is completed in `new` with
+-- the same signature ID.
 pub record KeepsStack (w new : Search) (n : ℕ) : Type 0 where
   pub within : n ≤ length w.stack
   pub states : (p : ℕ) → p < n → slice_index new.stack p ≡ slice_index w.stack p
@@ -36,16 +40,17 @@ pub record KeepsStack (w new : Search) (n : ℕ) : Type 0 where
   pub opened : (s p : ℕ) → p < n → stage_at w.stages s ≡ OnStack p → stage_at new.stages s ≡ OnStack p
   pub finished : (s k : ℕ) → stage_at w.stages s ≡ Completed k → stage_at new.stages s ≡ Completed k
 
--- A root is the first state of a component on the stack, and has the index at which the items of the component begin.
--- An item is a pair (label ID, block) or a signature ID. A frame has the outgoing transitions of a state on the stack
--- that are still to be read. Suppose that the frames and the items change, but not the roots. If each root still
--- satisfies `IsRoot`, then the roots are still in order (`AreRoots`).
+-- A component is a strongly connected set of states on the stack, and its root is its first state on the stack.
+-- `AreRoots` states that the roots of all components are in order. Suppose that a move changes the frames and the items
+-- of the search, but not the roots. A frame records which outgoing transitions of a state on the stack are still to be
+-- read, and an item is a pair (label ID, block) or a signature ID. If each root still satisfies `IsRoot` after the
+-- move, then `AreRoots` still holds.
 pub roots_kept : {w : Search} → AreRoots w → (frames : List Frame) (items : List Item) →
     All (IsRoot frames items) w.roots → AreRoots (record w { frames = frames; items = items })
 roots_kept roots frames items each = record { first = roots.first; ascending = roots.ascending; each = each }
 
--- An item is a pair (label ID, block) or a signature ID, and a signature ID represents all pairs of its signature. Each
--- item represents the same pairs before and after more signatures are interned.
+-- An item is a pair (label ID, block) or a signature ID, and a signature ID represents all pairs of its signature.
+-- Suppose that more signatures are interned. Then each item represents the same pairs as before.
 GivesPair-grow : {signatures lists' : List (List (ℕ × ℕ))} → Grow signatures lists' → (x : Item)
     → IsInternedItem signatures x → (z : ℕ × ℕ) → GivesPair signatures x z ↔ GivesPair lists' x z
 GivesPair-grow grow (Pair a b) there z = (λ g. g, λ g. g)
@@ -82,9 +87,11 @@ module _ {u : Under} {signatures lists' : List (List (ℕ × ℕ))} (grow : Grow
     followed = λ inert. followed_still p e.2 h (with_pushed e.2) (done.followed inert);
   }
 
-  -- Suppose that a move of the search does not change the states below the index n of the stack. Let a transition
-  -- belong to one of these states. If the transition had been processed or was still to be read before the move, then
-  -- it has been processed or is still to be read after the move.
+  -- Suppose that a move of the search does not change the states below the index n of the stack. Let s be one of these
+  -- states. Suppose that two conditions hold. First, if a certain transition of s was still to be read before the move,
+  -- then it is still to be read or was processed after the move. Second, if the search had gone from s to some state
+  -- and had not yet returned from it before the move, then it has followed an inert step from s to this state after the
+  -- move (`IsFollowed`). Then the transition of s is still to be read or was processed after the move.
   pub accounted_still : (p k : ℕ) → p < n → k < length u.l.places
       → source_of (place_at u.l.places k) ≡ slice_index new.stack p
       → (IsToBeRead w p k → IsToBeRead new p k ⊎ IsHandled u lists' new p (place_at u.l.places k))
@@ -93,10 +100,10 @@ module _ {u : Under} {signatures lists' : List (List (ℕ × ℕ))} (grow : Grow
   accounted_still p k h low source ahead with_pushed =
       search (rules, keeps.within, walks.accounted, keeps.states, done_still, u.l.places)
 
-  -- The stack is divided into components, which collect items: pairs (label ID, block) and signature IDs. Suppose that
-  -- a move of the search does not change the states below the index n of the stack, and that an item belongs to a
-  -- component of these states. Then, after the move, the pairs that the item represents are still in the signature of
-  -- some state of this component.
+  -- The stack is divided into components, which are strongly connected sets of states. Each component collects items:
+  -- pairs (label ID, block) and signature IDs. Suppose that a move of the search does not change the states below the
+  -- index n of the stack. Suppose also that an item belongs to a component of these states. Then, after the move, the
+  -- signature of some state of this component still contains all pairs that the item represents (`IsSound`).
   pub sound_still : (j : ℕ) → j < length w.items → n ≤ length new.stack →
       ((p : ℕ) → p < length w.stack → BelongsTo w.roots j p → p < n) → IsSound u lists' new j
   sound_still j low room below = let (p, lp, of, all) = walks.sound j low in let h = below p lp of in
@@ -108,10 +115,9 @@ module _ {u : Under} {signatures lists' : List (List (ℕ × ℕ))} (grow : Grow
         λ z g. rw (keeps.states p h) (all z ((give z).1 (rw same at g))),
       )
 
--- Compare two points of the search. Suppose that all states that are completed at the first point are also completed at
--- the second point, with the same signature IDs. If the signature with the ID k may be cached for the state s at the
--- first point (`IsCacheable`), it may also be cached for s at the second point. This is true even if more signatures
--- were interned between the two points.
+-- Suppose that each state that is completed at one point of the search is also completed at a later point, with the
+-- same signature ID. The search may intern more signatures between the two points. If the signature with the ID k may
+-- be cached for the state s at the first point (`IsCacheable`), it may also be cached for s at the later point.
 pub kept_still : {signatures lists' : List (List (ℕ × ℕ))} → Grow signatures lists' → (u : Under)
     (old new : List VisitState) → ((s k : ℕ) → stage_at old s ≡ Completed k → stage_at new s ≡ Completed k)
     → (s k : ℕ) → IsCacheable u s signatures old k → IsCacheable u s lists' new k
@@ -125,8 +131,8 @@ pub stays_on : {u : Under} {signatures : List (List (ℕ × ℕ))} {old new : Se
     new.stages ≡ old.stages → GoesOn u signatures signatures old new
 stays_on {signatures = signatures} walks same = grind (arith, walks, same, Grow-same signatures)
 
--- `GoesOn` is transitive: if the search goes on from `old` to `mid` and from `mid` to `new`, it goes on from `old` to
--- `new`.
+-- `GoesOn` is transitive. If the search goes on from the point `old` to the point `mid`, and from `mid` to the point
+-- `new`, then it goes on from `old` to `new`.
 pub goes_on : {u : Under} {first before signatures : List (List (ℕ × ℕ))} {old mid new : Search} →
     GoesOn u first before old mid → GoesOn u before signatures mid new → GoesOn u first signatures old new
 goes_on were are = record {

@@ -1,5 +1,5 @@
--- Lemmas about a search that has not begun or has ended. Some of these lemmas are about the cached signature IDs of the
--- states.
+-- Lemmas about the data of the search while no search is in progress. Some of these lemmas are about the cached
+-- signature IDs of the states.
 use Rattle.std.proofs.Common.{rules, ◌≡◌, ◌⊎◌, ◌∙◌, ℕ, ◌<◌, ◌≤◌, List, length, slice_index, refl, sym, ap, arith}
 use Rattle.std.proofs.lemmas.Bool.{cases_lt}
 use Rattle.std.proofs.lemmas.List.{get_or_past, get_or-map, length-map, nil_from_length}
@@ -14,7 +14,8 @@ use Rattle.inert.proofs.parts.Tops.{no_root}
 use Rattle.inert.specs.SearchMoves.{IsAtRest}
 use Rattle.inert.proofs.invariant.Standing.{frames_some, root_low}
 
--- If the number s is not a state, because it is at least the number of states, then the cached signature ID for s is 0.
+-- If the number s is at least the number of states, so that there is no state s, then the cached signature ID for s is
+-- 0.
 pub kept_past : (stages : List VisitState) (s : ℕ) → length stages ≤ s → slice_index (cached stages) s ≡ 0
 kept_past stages s past = get_or_past (cached stages) s 0 (omega (arith, past, length-map stages id_of))
 
@@ -27,8 +28,8 @@ pub cached_at : (stages : List VisitState) (s k : ℕ) → stage_at stages s ≡
     → slice_index (cached stages) s ≡ k
 cached_at stages s k is = kept_is stages s ∙ ap id_of is
 
--- These lemmas assume that the active states (the states that the round processes) were marked as unvisited, and that
--- all states were completed before that.
+-- These lemmas make two assumptions. First, all states were completed. Second, the active states, which are the states
+-- that the round processes, were then marked as unvisited.
 module _ {active : List ℕ} {old w : Search} (woken : AreMarkedUnvisited old.stages active w) (over : HasEnded old) where
   others : (s : ℕ) → s < length w.stages → IsMember active s ⊎ IsFinished w.stages s
   others s h = grind (arith, h, over.all s, woken.size, woken.others s)
@@ -42,8 +43,9 @@ module _ {active : List ℕ} {old w : Search} (woken : AreMarkedUnvisited old.st
   unless_finished s = let past = get_or_past w.stages s Unvisited in
       grind (arith, cases_lt s (length w.stages), past, others s, unvisited s)
 
-  -- The active states are the states that the round processes. Suppose that the cached signature ID is correct for each
-  -- state that is not active but shares a block with an active state. Then a search can begin (`IsAtRest`).
+  -- The active states are the states that the round processes, and they are marked as unvisited. Suppose that each
+  -- state that is not active but shares a block with an active state has the correct cached signature ID. Then no
+  -- search is in progress, and the invariant of the search holds, so that a search can begin (`IsAtRest`).
   pub woken_rests : {u : Under} {signatures : List (List (ℕ × ℕ))}
       → CachesBeside u.l u.blocks active signatures (cached old.stages) → 1 ≤ length signatures
       → IsAtRest u signatures w
@@ -79,9 +81,9 @@ module _ {u : Under} {signatures : List (List (ℕ × ℕ))} {w : Search} (rests
   finished s found = finished_stage (stage_at w.stages s) found
       (λ p is. let on = rests.walks.opened.only s p is in omega (arith, on.0, ap (λ w. length w.stack) rests.empty))
 
--- Each frame belongs to a state on the stack, and has the outgoing transitions of this state that are still to be read.
--- Suppose that the invariant of the search holds, and that there is no frame. Then no search is in progress, which
--- means that all lists of the search are empty.
+-- Each frame belongs to a state on the stack, and records which outgoing transitions of this state are still to be
+-- read. Suppose that the invariant of the search holds, and that there is no frame. Then no search is in progress,
+-- which means that the stack and all other lists of the search are empty.
 pub walk_rests : {u : Under} {signatures : List (List (ℕ × ℕ))} {w : Search} → SearchInvariant u signatures w
     → length w.frames ≡ 0 → w ≡ nothing w.stages
 walk_rests {w = w} walks none =

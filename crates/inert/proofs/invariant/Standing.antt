@@ -19,8 +19,8 @@ pub pair_before : (laws : Laws) (u : Under) (s t : ℕ) (z : ℕ × ℕ) → Lea
     → HasPair Branching u.l u.blocks t z.0 z.1 → HasPair Branching u.l u.blocks s z.0 z.1
 pair_before laws u s t z tie has = (has.0, laws.path (system_of u.l) (slice_index u.blocks) s t _ z.1 tie has.1)
 
--- The list `stages` has the status of each state: unvisited, on the stack, or completed. Each state on the stack has an
--- entry in this list.
+-- The list `stages` has the status of each state: unvisited, on the stack, or completed. If the status of each state on
+-- the stack is `OnStack` with its index on the stack, then each state on the stack has an entry in this list.
 pub open_inside : (stages : List VisitState) (stack : List ℕ) → AreOpen stages stack
     → All (λ s. s < length stages) stack
 open_inside stages stack opened =
@@ -37,8 +37,8 @@ module _ {u : Under} {signatures : List (List (ℕ × ℕ))} {w : Search} (walks
   pub last_low : 0 < length w.frames → length w.roots - 1 < length w.roots
   last_low some = grind (arith, on_stack some, walks.roots.first)
 
-  -- A frame has the outgoing transitions of a state on the stack that are still to be read. No state that has a frame
-  -- is higher on the stack than the state of the last frame.
+  -- Each frame belongs to a state on the stack, and records which outgoing transitions of this state are still to be
+  -- read. No frame belongs to a state that is higher on the stack than the state of the last frame.
   pub frames_up : (i : ℕ) → i < length w.frames → (frame_at w.frames i).height ≤ here w
   frames_up i low = grind (arith, walks.frames.ascending i (length w.frames - 1) no_frame, low)
 
@@ -48,24 +48,27 @@ module _ {u : Under} {signatures : List (List (ℕ × ℕ))} {w : Search} (walks
   pub last_frame : (i : ℕ) → i < length w.frames → here w ≤ (frame_at w.frames i).height → i ≡ length w.frames - 1
   last_frame i low high = grind (arith, walks.frames.ascending i (length w.frames - 1) no_frame, low, high)
 
-  -- A frame has the outgoing transitions of a state that are still to be read. If all outgoing transitions of the state
-  -- of the last frame were read, the last frame has none of these transitions.
+  -- Each frame belongs to a state on the stack, and records which outgoing transitions of this state are still to be
+  -- read. If all outgoing transitions of the state of the last frame were read, then none of these transitions is still
+  -- to be read according to the last frame.
   pub none_ahead : HasRead w → (p k i : ℕ) → k < length u.l.places
       → source_of (place_at u.l.places k) ≡ slice_index w.stack p → i < length w.frames
       → i ≡ length w.frames - 1 → (frame_at w.frames i).height ≡ p → ¬ ((frame_at w.frames i).next ≤ k)
   none_ahead read p k i lk source low e is ahead = search rules
 
-  -- The root of a component is its first state on the stack. No root is higher on the stack than the current state,
-  -- which is the state whose outgoing transitions are being read.
+  -- A component is a strongly connected set of states on the stack. The root of a component is its first state on the
+  -- stack. No root is higher on the stack than the current state, which is the state whose outgoing transitions are
+  -- being read.
   pub reached : All (λ r. r.height ≤ here w) w.roots
   reached i d h = let (j, low, is) = (walks.roots.each i d h).framed in omega (arith, frames_up j low, is)
 
   pub root_low : All (λ r. r.height < length w.stack) w.roots
   root_low i d h = search rules
 
-  -- The root of a component is its first state on the stack. No root is higher on the stack than the root of the last
-  -- component. The items that the last component has collected, which are pairs (label ID, block) and signature IDs,
-  -- come after the items of all other components.
+  -- A component is a strongly connected set of states on the stack. The root of a component is its first state on the
+  -- stack, and the last component is at the top of the stack. No root is higher on the stack than the root of the last
+  -- component. No component has items, which are pairs (label ID, block) and signature IDs, that begin at a greater
+  -- index of the list of items than the items of the last component.
   pub last_most : All (λ r. (r.height ≤ (last w.roots).height) × (r.items ≤ (last w.roots).items)) w.roots
   last_most i d h = grind (arith, walks.roots.ascending i (length w.roots - 1) d, get_or_default)
 
@@ -74,9 +77,9 @@ module _ {u : Under} {signatures : List (List (ℕ × ℕ))} {w : Search} (walks
   pub ties : (p : ℕ) → p < length w.stack → LeadsInertly u (slice_index w.stack p) (slice_index w.stack (here w))
   ties p low = walks.connects p (here w) low (on_stack (frames_some (omega (arith, low)))) (λ i d h _. reached i d h)
 
--- The status of a completed state contains a signature ID. Suppose that the state t is completed and its status
--- contains the signature ID k. Suppose also that t shares a block with some state on the stack. Then k is the ID of the
--- signature of t.
+-- The status of a completed state contains a signature ID. Suppose that the state t is completed, and that its status
+-- contains the signature ID k. If t shares a block with some state on the stack, then k is the ID of the signature of
+-- t.
 pub list_signed : {u : Under} {signatures : List (List (ℕ × ℕ))} {w : Search} → SearchInvariant u signatures w
     → (p t k : ℕ) → p < length w.stack → slice_index w.stack p < u.l.states
     → slice_index u.blocks t ≡ slice_index u.blocks (slice_index w.stack p) → stage_at w.stages t ≡ Completed k

@@ -1,5 +1,6 @@
 -- Lemmas about how the search goes back from a state whose outgoing transitions were all read. The frame of the state
--- is then popped. If the state is the root (the first state on the stack) of a component, this component is completed.
+-- is then popped. A component is a strongly connected set of states on the stack. If the state is the first state of a
+-- component on the stack, this component is completed.
 use Rattle.std.proofs.Common.{◌≡◌, ◌≢◌, ℕ, ◌+◌, ◌-◌, ◌<◌, ◌≤◌, List, length, slice_index, sym, ◌∙◌, ap, inl, inr, rules}
 use Rattle.std.proofs.Common.{refl, arith, take, get_or, Contains}
 use Rattle.std.specs.List.{All}
@@ -25,14 +26,12 @@ use Rattle.inert.proofs.invariant.Standing.{reached, on_stack, not_last, last_mo
 use Rattle.inert.proofs.invariant.Standing.{root_low}
 use Rattle.inert.proofs.signatures.Exact.{exact}
 
--- A frame has the outgoing transitions of a state on the stack that are still to be read, and there is a list of all
--- frames. Returns the search w after the last frame of this list was removed. The stack of states does not change.
+-- Each frame belongs to a state on the stack, and records which outgoing transitions of this state are still to be
+-- read. Returns the data of the search w after its last frame was removed. The stack of states does not change.
 abbrev pub popped : Search → Search
 popped w = record w { frames = take (length w.frames - 1) w.frames }
 
 module _ {u : Under} {signatures : List (List (ℕ × ℕ))} {w : Search} (walks : SearchInvariant u signatures w) where
-  -- A frame has the outgoing transitions of a state on the stack that are still to be read, and there is a list of all
-  -- frames. Popping the last frame reduces the length of this list by one.
   pub popped_size : length (popped w).frames ≡ length w.frames - 1
   popped_size = length-take-le (length w.frames - 1) w.frames (omega arith)
 
@@ -40,21 +39,24 @@ module _ {u : Under} {signatures : List (List (ℕ × ℕ))} {w : Search} (walks
       × (frame_at (popped w).frames i ≡ frame_at w.frames i)
   popped_same i h = (omega (arith, popped_size, h), get_or-take (length w.frames - 1) w.frames i no_frame h)
 
-  -- A frame has the outgoing transitions of a state on the stack that are still to be read. If a state with a frame is
-  -- below the state of the last frame on the stack, it still has a frame after the last frame was popped.
+  -- Each frame belongs to a state on the stack, and records which outgoing transitions of this state are still to be
+  -- read. Suppose that a state with a frame is below the state of the last frame on the stack. Then the state below
+  -- still has a frame after the last frame was popped.
   popped_framed : (p : ℕ) → p < here w → (i : ℕ) × (i < length w.frames) × ((frame_at w.frames i).height ≡ p)
       → (i : ℕ) × (i < length (popped w).frames) × ((frame_at (popped w).frames i).height ≡ p)
   popped_framed p before (i, low, is) = grind (arith, not_last walks i low, before, popped_same i, is)
 
-  -- A frame has the outgoing transitions of a state on the stack that are still to be read. These lemmas assume that
-  -- all outgoing transitions of the state of the last frame were read, and that this state is not the root of a
-  -- component (its first state on the stack).
+  -- A component is a strongly connected set of states on the stack. Each frame belongs to a state on the stack, and
+  -- records which outgoing transitions of this state are still to be read. These lemmas make two assumptions about the
+  -- state of the last frame. First, all outgoing transitions of this state were read. Second, this state is not the
+  -- first state of a component on the stack.
   module _ (some : 0 < length w.frames) (read : HasRead w) (apart : (last w.roots).height ≢ here w) where
     pop_keeps : KeepsStack w (popped w) (length w.stack)
     pop_keeps = grind arith
 
-    -- The current state is the state whose outgoing transitions were just read. If the current state is not the root of
-    -- a component (its first state on the stack), all roots are below the current state on the stack.
+    -- The current state is the state whose outgoing transitions were just read. A component is a strongly connected set
+    -- of states on the stack. The root of a component is its first state on the stack. If the current state is not a
+    -- root, all roots are below the current state on the stack.
     earlier : All (λ r. r.height < here w) w.roots
     earlier i d h = grind (arith, last_most walks i d h, reached walks (length w.roots - 1) no_root, apart, h)
 
@@ -87,21 +89,24 @@ module _ {u : Under} {signatures : List (List (ℕ × ℕ))} {w : Search} (walks
         (λ ahead. inl (ahead_popped p k lk source ahead)) (entered_popped p) in
         search (rules, walks, roots, frames, accounted)
 
-    -- A frame has the outgoing transitions of a state on the stack that are still to be read, and there is a list of
-    -- all frames. Suppose that all outgoing transitions of the state of the last frame were read. Then the invariant of
-    -- the search still holds after this frame was removed from the list (`GoesOn`).
+    -- A component is a strongly connected set of states on the stack. Each frame belongs to a state on the stack, and
+    -- records which outgoing transitions of this state are still to be read. Suppose that all outgoing transitions of
+    -- the state of the last frame were read, and that this state is not the first state of a component on the stack.
+    -- Then the invariant of the search still holds after the last frame was removed (`GoesOn`).
     pub popped_on : GoesOn u signatures signatures w (popped w)
     popped_on = stays_on SearchInvariant-pop refl
 
--- A frame has the outgoing transitions of a state on the stack that are still to be read. These lemmas assume that all
--- outgoing transitions of the state of the last frame were read, and that this state is the root of a component (its
--- first state on the stack). They also assume that this component was then completed.
+-- A component is a strongly connected set of states on the stack. Each frame belongs to a state on the stack, and
+-- records which outgoing transitions of this state are still to be read. These lemmas make three assumptions. First,
+-- all outgoing transitions of the state of the last frame were read. Second, this state is the first state of a
+-- component on the stack. Third, the last frame was then popped, and this component was completed (`Closes`).
 module _ (laws : Laws) {u : Under} (lts : IsLts u.l) {before signatures : List (List (ℕ × ℕ))} {w new : Search}
     (walks : SearchInvariant u before w) (some : 0 < length w.frames) (read : HasRead w)
     (height : (last w.roots).height ≡ here w)
     (closes : Closes (last w.roots) before signatures (popped w) new) where
-  -- The component that is completed begins at the index q of the stack. Its items, which are pairs (label ID, block)
-  -- and signature IDs, begin at the index `c0` of the list of items.
+  -- A component is a strongly connected set of states on the stack. The component that is completed begins at the index
+  -- q of the stack. Its items, which are pairs (label ID, block) and signature IDs, begin at the index `c0` of the list
+  -- of items.
   abbrev q : ℕ
   q = (last w.roots).height
 
@@ -117,8 +122,8 @@ module _ (laws : Laws) {u : Under} (lts : IsLts u.l) {before signatures : List (
   few : c0 ≤ length w.items
   few = (walks.roots.each (length w.roots - 1) no_root (last_low walks some)).within
 
-  -- Suppose that the component at the top of the stack begins at the index q of the stack. After this component was
-  -- completed, the stack has exactly q states.
+  -- A component is a strongly connected set of states on the stack. Suppose that the component at the top of the stack
+  -- begins at the index q of the stack. After this component was completed, the stack has exactly q states.
   size : length new.stack ≡ q
   size = ap length closes.stack ∙ length-take-le q w.stack (omega (arith, low_q))
 
@@ -140,16 +145,17 @@ module _ (laws : Laws) {u : Under} (lts : IsLts u.l) {before signatures : List (
       (λ (m, from, high, same). grind (arith, closes.stages.members m, signed m, from, high, same, is))
       (closes.stages.others s)
 
-  -- The stack is divided into components, which collect items: pairs (label ID, block) and signature IDs. The items of
-  -- the completed component begin at the index `c0` of the list of items. The first `c0` items belong to other
-  -- components, and do not change when the component is completed.
+  -- The stack is divided into components, which are strongly connected sets of states. Each component collects items:
+  -- pairs (label ID, block) and signature IDs. The items of the completed component begin at the index `c0` of the list
+  -- of items. The first `c0` items belong to other components, and do not change when the component is completed.
   item_same : (j : ℕ) → j < c0 → (j < length new.items) × (item_at new.items j ≡ item_at w.items j)
   item_same j h =
       grind (arith, closes.led, closes.alone, few, get_or_append_left, length-append, get_or-take, length-take-le)
 
-  -- The stack is divided into components, which collect items: pairs (label ID, block) and signature IDs. Suppose that
-  -- the search came to the completed component from a state of another component. Then the signature ID of the
-  -- completed component is now the last item in the list of all items. Otherwise no item is added.
+  -- A component is a strongly connected set of states on the stack. The items that a component of the stack collects
+  -- are pairs (label ID, block) and signature IDs. The items of the completed component began at the index `c0` of the
+  -- list of items. Suppose that the search came to the completed component from a state of another component. Then the
+  -- list of items now has `c0 + 1` items, and the last of these items is the signature ID of the completed component.
   item_new : 0 < length new.frames → (length new.items ≡ c0 + 1)
       × (item_at new.items c0 ≡ Interned closes.id)
   item_new more = grind (arith, common_steps, closes.led, closes.frames, more, length-take-le c0 w.items few)
@@ -161,8 +167,10 @@ module _ (laws : Laws) {u : Under} (lts : IsLts u.l) {before signatures : List (
       j < length new.items → P j
   each_item P old last j low = grind (arith, old j, last, item_new, no_item, low)
 
-  -- The root of a component is its first state on the stack. Suppose that the last component is completed, so that its
-  -- root is removed. Then each remaining root was there before, satisfied `IsRoot`, and came before the removed root.
+  -- A component is a strongly connected set of states on the stack. The root of a component is its first state on the
+  -- stack. Suppose that the last component is completed, so that its root is removed. Then each remaining root is at
+  -- the same index of the list of roots as before. Before the last component was completed, this root satisfied
+  -- `IsRoot` and came before the removed root.
   root_left : (i : ℕ) (d : Root) → i < length new.roots → (i < length w.roots)
       × (get_or new.roots i d ≡ get_or w.roots i d) × IsRoot w.frames w.items (get_or w.roots i d)
       × IsBefore (get_or w.roots i d) (last w.roots)
@@ -172,9 +180,9 @@ module _ (laws : Laws) {u : Under} (lts : IsLts u.l) {before signatures : List (
       let before = walks.roots.ascending i n d in
       grind (arith, h, closes.roots, length-take-le n w.roots, last, same, before, walks.roots.each i)
 
-  -- A root is the first state of a component on the stack. If the last component of the search w is completed, its root
-  -- is removed. Suppose that a property P holds for each remaining root and for the removed root. Then P holds for each
-  -- root of w.
+  -- A component is a strongly connected set of states on the stack. The root of a component is its first state on the
+  -- stack. Suppose that the last component of the search w is completed, so that its root is removed. If a property P
+  -- holds for each remaining root and for the removed root, it holds for each root of w.
   root_back : (P : Root → Type 0) → All P new.roots → P (last w.roots) → All P w.roots
   root_back P all here = All-from_take P (length w.roots - 1) w.roots no_root (rw (← closes.roots) all)
       (λ i high low. let e : i ≡ length w.roots - 1 = omega (arith, high, low) in rw e here)
@@ -190,15 +198,17 @@ module _ (laws : Laws) {u : Under} (lts : IsLts u.l) {before signatures : List (
     finished = closed_seen.finished;
   }
 
-  -- The number `back` is the index on the stack of the state from which the search came to the completed component.
+  -- A component is a strongly connected set of states on the stack. The number `back` is the index on the stack of the
+  -- state from which the search came to the completed component.
   abbrev back : ℕ
   back = (frame_at w.frames (length w.frames - 2)).height
 
   back_low : 0 < length new.frames → back < q
   back_low more = grind (arith, closes.frames, popped_size walks, walks.frames.ascending, height, more)
 
-  -- The search came to the completed component from a state of another component. No remaining root (the first state of
-  -- a component on the stack) is higher on the stack than this state.
+  -- A component is a strongly connected set of states on the stack. The root of a component is its first state on the
+  -- stack. Suppose that the search came to the completed component from a state of another component. Then no remaining
+  -- root is higher on the stack than this state.
   up_to_back : 0 < length new.frames → All (λ r. r.height ≤ back) new.roots
   up_to_back more k d h = let (low, same, root, before) = root_left k d h in let (i, li, is) = root.framed in
       let less = not_last walks i li (omega (arith, is, before.0, height)) in
@@ -279,9 +289,9 @@ module _ (laws : Laws) {u : Under} (lts : IsLts u.l) {before signatures : List (
         (entered_still p);
   }
 
-  -- Suppose that the component at the top of the stack is completed. Then the invariant of the search still holds
-  -- (`GoesOn`). The number of visits (counted reads of transitions) that are still to be made and the number of
-  -- unvisited states do not change.
+  -- A component is a strongly connected set of states on the stack. Suppose that the component at the top of the stack
+  -- is completed. Then the invariant of the search still holds (`GoesOn`). The number of visits (counted reads of
+  -- transitions) that are still to be made and the number of unvisited states do not change.
   pub closed : GoesOn u before signatures w new × (ahead u new ≡ ahead u w) × (unseen new.stages ≡ unseen w.stages)
   closed =
       let cut = rest-cut u.visited w.frames some read in

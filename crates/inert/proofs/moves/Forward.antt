@@ -1,6 +1,7 @@
--- The forward moves of the search preserve its invariant `SearchInvariant`. A forward move collects an item, which is a
--- pair (label ID, block) or a signature ID, or merges components of the stack, or pushes a state, or marks a transition
--- as read.
+-- Proves that the forward moves of the search preserve its invariant (`SearchInvariant`). There are four forward moves.
+-- First, the search collects an item, which is a pair (label ID, block) or a signature ID. Second, it merges
+-- components, which are sets of states on the stack that inert transitions connect in both directions. Third, it pushes
+-- a state. Fourth, it marks a transition as read.
 use Rattle.std.proofs.Common.{◌≡◌, ◌≢◌, ℕ, ◌+◌, ◌<◌, List, length, slice_index, refl, inl, inr, arith, ◌-◌, ◌≤◌, rules}
 use Rattle.std.proofs.Common.{◌∙◌, ◌⊎◌, set, get_or}
 use Rattle.std.specs.List.{All}
@@ -46,9 +47,9 @@ module _ {u : Under} {signatures : List (List (ℕ × ℕ))} {w : Search} (walks
     collect_keeps : KeepsStack w With (length w.stack)
     collect_keeps = grind (arith, common_steps)
 
-    -- The current state is the state whose outgoing transitions are being read. The item that the search collects,
-    -- which is a pair (label ID, block) or a signature ID, belongs to the component of the stack that contains the
-    -- current state.
+    -- A component is a strongly connected set of states on the stack. The current state is the state whose outgoing
+    -- transitions are being read. Let an item, which is a pair (label ID, block) or a signature ID, be appended to the
+    -- list of items. Then this item belongs to the component that contains the current state.
     of_here : BelongsTo w.roots (length w.items) (here w)
     of_here i d h = grind (arith, common_steps, walks.roots.each, reached)
 
@@ -71,17 +72,19 @@ module _ {u : Under} {signatures : List (List (ℕ × ℕ))} {w : Search} (walks
         accounted_still grow walks collect_keeps p k lp lk source (λ ahead. inl ahead) (λ t e. inr (inr e)) in
         search (rules, walks, roots, theirs, sounds, accounted)
 
-  -- The current state is the state whose outgoing transitions are being read, and a root is the first state of a
-  -- component on the stack. These lemmas assume that an inert step leads from the current state to the state at the
-  -- index q of the stack. The components from the component of this state up to the top of the stack are merged: all
-  -- roots above the index q are dropped.
+  -- The current state is the state whose outgoing transitions are being read. A component is a strongly connected set
+  -- of states on the stack. The root of a component is its first state on the stack. These lemmas assume that an inert
+  -- step leads from the current state to the state at the index q of the stack. They also assume that all components
+  -- from the component of this state up to the top of the stack are merged, so that all roots above the index q are
+  -- dropped.
   module _ (laws : Laws) {q : ℕ} {roots : List Root} (cuts : CutsRoots q w.roots roots) where
     cut_each : (P : Root → Type 0) → All P w.roots → All P roots
     cut_each P each = rw cuts.roots (All-take P cuts.count w.roots each)
 
-    -- A root is the first state of a component on the stack. A merge of components drops all roots above the index q of
-    -- the stack. Suppose that a property P holds for all roots that remain, and for all roots above the index q. Then P
-    -- holds for all roots that there were before the merge.
+    -- A component is a strongly connected set of states on the stack. The root of a component is its first state on the
+    -- stack. A merge of components drops all roots above the index q of the stack. If a property P holds for all roots
+    -- that remain after the merge, and for all roots above the index q, then P holds for all roots of the search before
+    -- the merge.
     cut_back : (P : Root → Type 0) → All P roots → ((r : Root) → q < r.height → P r) → All P w.roots
     cut_back P each above =
         All-from_take P cuts.count w.roots no_root (rw cuts.roots at each) (λ i up low. above _ (cuts.above i up low))
@@ -92,16 +95,18 @@ module _ {u : Under} {signatures : List (List (ℕ × ℕ))} {w : Search} (walks
     join_keeps : KeepsStack w Joined (length w.stack)
     join_keeps = grind (arith, common_steps, cuts.roots)
 
-    -- A root is the first state of a component on the stack. Suppose that all components from the component of the
-    -- state at the index q of the stack up to the top of the stack are merged. Then no root is above the index q.
+    -- A component is a strongly connected set of states on the stack. A root is the first state of a component on the
+    -- stack. Suppose that all components from the component of the state at the index q of the stack up to the top of
+    -- the stack are merged. Then no root is above the index q.
     below : All (λ r. r.height ≤ q) roots
     below i d h =
         let root = get_or_default w.roots (cuts.count - 1) d no_root in
         grind (arith, elements, cuts.below, cuts.roots, walks.roots.ascending i (cuts.count - 1), root)
 
-    -- The current state is the state whose outgoing transitions are being read. Suppose that an inert step leads from
-    -- the current state to a state t on the stack, and that the components from the component of t up to the top of the
-    -- stack are merged. Then t and the current state are in the same component.
+    -- A component is a strongly connected set of states on the stack. The current state is the state whose outgoing
+    -- transitions are being read. Suppose that an inert step leads from the current state to a state t on the stack,
+    -- and that the components from the component of t up to the top of the stack are merged. Then t and the current
+    -- state are in the same component.
     pub joined_here : (t : ℕ) → stage_at w.stages t ≡ OnStack q → IsInComponent Joined (here w) t
     joined_here t is =
         (q, is, λ i d h _. below i d h, λ i d h _. cut_each (λ r. r.height ≤ here w) (reached walks) i d h)
@@ -145,8 +150,9 @@ module _ {u : Under} {signatures : List (List (ℕ × ℕ))} {w : Search} (walks
     abbrev NewRoot : Root
     NewRoot = record { height = length w.stack; items = length w.items }
 
-    -- A frame has the outgoing transitions of a state that are still to be read. Pushing the state t adds t to the
-    -- stack, and adds a frame for t to the list of frames. The states and frames that were there before do not change.
+    -- A frame records which outgoing transitions of a state on the stack are still to be read. Pushing the state t adds
+    -- t to the stack, and adds a frame for t to the list of frames. All earlier states on the stack and all earlier
+    -- frames stay the same.
     size : length Entered.stack ≡ n + 1
     size = length_push w.stack t
 
@@ -168,7 +174,8 @@ module _ {u : Under} {signatures : List (List (ℕ × ℕ))} {w : Search} (walks
     before_new : (P : Root → Type 0) → All P Entered.roots → All P w.roots
     before_new P all i d h = search (rules, get_or_append_left, w.roots, length_push)
 
-    -- After the state t is pushed at the index n of the stack, its status is `OnStack n`. No other status has changed.
+    -- After the state t is pushed at the index n of the stack, its status is `OnStack n`. The statuses of all other
+    -- states have not changed.
     stage_of : (s : ℕ) → ((s ≡ t) × (stage_at Entered.stages s ≡ OnStack n))
         ⊎ (stage_at Entered.stages s ≡ stage_at w.stages s) × (s ≢ t)
     stage_of s = grind (arith, elements, cases_eq s t, within)
@@ -251,8 +258,8 @@ module _ {u : Under} {signatures : List (List (ℕ × ℕ))} {w : Search} (walks
           grind (arith, walks.sizes, length-set, size, fewer) in
           search (rules, walks, sizes, opened, signed, roots, frames, connects, sound, accounted)
 
-      -- If the search pushes the state t, its invariant still holds (`GoesOn`), and the number of visits (counted reads
-      -- of transitions) that are still to be made does not change.
+      -- If the search pushes the state t, the invariant of the search still holds (`GoesOn`). The number of visits
+      -- (counted reads of transitions) that the search still has to make does not change.
       pub entered_on : GoesOn u signatures signatures w Entered × (ahead u Entered ≡ ahead u w)
       entered_on =
           let read = unread-set w.stages t (OnStack n) refl within unseen (remaining u) in
@@ -260,8 +267,9 @@ module _ {u : Under} {signatures : List (List (ℕ × ℕ))} {w : Search} (walks
           let push = sum_by_push (λ y. price_between u.visited y.next y.end) w.frames NewFrame in
           (grind (arith, SearchInvariant-enter, grow, stage_of, unseen), omega (arith, read, row, push))
 
-  -- A frame has the outgoing transitions of a state that are still to be read. These lemmas assume that the transition
-  -- at the place (index) m is the first transition of the frame i, and that this transition is marked as read.
+  -- Each frame belongs to a state on the stack, and records which outgoing transitions of this state are still to be
+  -- read. These lemmas assume that the next transition of the frame at the index i is at the place (index) m, and that
+  -- this transition is marked as read.
   module _ {i m : ℕ} {x : Frame} (low : i < length w.frames) (is : x ≡ record (frame_at w.frames i) { next = m + 1 })
       (next : (frame_at w.frames i).next ≡ m) (more : m < (frame_at w.frames i).end) where
     abbrev pub Moved : Search
@@ -282,7 +290,8 @@ module _ {u : Under} {signatures : List (List (ℕ × ℕ))} {w : Search} (walks
 
     module _ (done : IsHandled u signatures w (frame_at w.frames i).height (place_at u.l.places m)) where
       -- A place is an index in the list of all transitions. Suppose that the transition at the place m was processed
-      -- and is now marked as read. If any other transition was still to be read before, it is still to be read now.
+      -- and is now marked as read. Then each transition that was still to be read before is still to be read now, or
+      -- was processed.
       next_ahead : (p k : ℕ) → p < length w.stack → IsToBeRead w p k →
           IsToBeRead Moved p k ⊎ IsHandled u signatures Moved p (place_at u.l.places k)
       next_ahead p k lp (j, lj, at, ahead) = elim (cases_lt k (frame_at Moved.frames j).next) [

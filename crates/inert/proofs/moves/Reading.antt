@@ -25,9 +25,9 @@ use Rattle.inert.proofs.signatures.Exact.{place_step}
 use Rattle.inert.proofs.moves.Forward.{SearchInvariant-collect, collected_holds, SearchInvariant-join, joined_here}
 use Rattle.inert.proofs.moves.Forward.{entered_on, entered_met, SearchInvariant-next}
 
--- The last frame has the outgoing transitions of the current state that are still to be read. These lemmas assume that
--- the transition at the place k (the index k in the list of all transitions) is the first of them. They describe the
--- search after this transition was processed, but before it is marked as read.
+-- The last frame of the search records which outgoing transitions of the current state are still to be read. These
+-- lemmas assume that the first of these transitions is at the place k, which is an index in the list of all
+-- transitions. They describe the search after this transition was processed, but before it is marked as read.
 module _ (laws : Laws) {u : Under} (lts : IsLts u.l) {signatures : List (List (ℕ × ℕ))} {w : Search}
     (walks : SearchInvariant u signatures w)
     (some : 0 < length w.frames) {k : ℕ} (next : (top w.frames).next ≡ k) (more : k < (top w.frames).end) where
@@ -58,8 +58,8 @@ module _ (laws : Laws) {u : Under} (lts : IsLts u.l) {signatures : List (List (�
       let here = laws.here (system_of u.l) (slice_index u.blocks) (source_of e) in
       grind (arith, lts.in_range.each k (0, 0, 0) place_low, source, here, place_step u.l k place_low, other)
 
-  -- `Taken` lists the facts that hold for the search m after the transition e was processed. The flag `enters` is true
-  -- if a state was pushed when e was processed.
+  -- The search goes from w to m when it processes the transition e. `Taken` lists the facts that then hold for m. The
+  -- flag `enters` is true if the search has pushed a state when it processed e.
   pub record Taken (m : Search) (enters : Bool) : Type 0 where
     pub on : GoesOn u signatures signatures w m
     pub done : IsHandled u signatures m (here w) e
@@ -123,8 +123,9 @@ module _ (laws : Laws) {u : Under} (lts : IsLts u.l) {signatures : List (List (�
       }) stay)
   taken (Goes t) m enters (inert, is) takes = followed inert m enters (rw is at takes)
 
--- A frame has the transitions of a state that are still to be read. Suppose that a frame is changed, and a transition
--- is then processed. The result is the same if the transition is processed first and the frame is changed afterwards.
+-- A frame records which outgoing transitions of a state on the stack are still to be read. Suppose that the search
+-- first changes a frame, and then processes a transition. The result is the same if the search first processes the
+-- transition, and then changes the frame.
 marked_first : (places : List Triple) (w : Search) {m : Search} (enters : Bool) {i : ℕ} {x : Frame} (step : TakenStep)
     → i < length w.frames → HandlesStep places step (record w { frames = set w.frames i x }) m enters
     → (m' : Search) × HandlesStep places step w m' enters × (m ≡ record m' { frames = set m'.frames i x })
@@ -138,26 +139,30 @@ marked_first places w {m = m} enters (Goes t) low (inr (inl (q, stage, cuts, new
 marked_first places w enters (Goes t) low (inr (inr (id, stage, new, stay))) =
     (with_item (Interned id) w, inr (inr (id, stage, refl, stay)), new)
 
--- The last frame of the search has the outgoing transitions of the current state that are still to be read. `Reads`
--- holds if the search has gone from `old` to `new` by reading transitions of the last frame of `old`, up to but
--- excluding the transition at the place (index) k.
+-- The last frame of the search records which outgoing transitions of the current state are still to be read. `Reads`
+-- describes a search that has gone from `old` to `new` by reading the transitions that the last frame of `old` records,
+-- up to but excluding the transition at the place (index) k. It holds under three conditions. First, the search has
+-- gone on from `old` to `new` (`GoesOn`). Second, in `new`, the next transition of this frame is at the place k. Third,
+-- the number of visits (counted reads) that the search had to make in `old` equals the number of visits that it still
+-- has to make in `new` plus the number of visits that reading these transitions took.
 pub record Reads (u : Under) (signatures : List (List (ℕ × ℕ))) (old new : Search) (k : ℕ) : Type 0 where
   pub on : GoesOn u signatures signatures old new
   pub here : frame_at new.frames (length old.frames - 1) ≡ record (top old.frames) { next = k }
   pub forward : (top old.frames).next ≤ k
   pub less : ahead u new + price_between u.visited (top old.frames).next k ≡ ahead u old
 
--- A frame has the outgoing transitions of a state on the stack that are still to be read. `Stays` holds if no state was
--- pushed while the search went from `old` to `new`: the stack, the number of frames and the number of unvisited states
--- are the same.
+-- A frame records which outgoing transitions of a state on the stack are still to be read. `Stays` holds if no state
+-- was pushed while the search went from `old` to `new`, so that the stack, the number of frames and the number of
+-- unvisited states are the same.
 pub record Stays (old new : Search) : Type 0 where
   pub size : length new.frames ≡ length old.frames
   pub stack : new.stack ≡ old.stack
   pub unseen : unseen new.stages ≡ unseen old.stages
 
--- The last frame of the search has the outgoing transitions of the current state that are still to be read. `Marked`
--- holds if the search has gone from `old` to `new` by reading transitions of the last frame of `old`, up to and
--- including the transition at the place (index) k. The flag `enters` must be true if a state was pushed.
+-- The last frame of the search records which outgoing transitions of the current state are still to be read. `Marked`
+-- holds if the search has gone from `old` to `new` by reading the transitions that the last frame of `old` records, up
+-- to and including the transition at the place (index) k. If the flag `enters` is false, no state was pushed (`Stays`).
+-- If the flag `enters` is true, the upper bound `steps` for the steps that the search still has to make has decreased.
 pub record Marked (u : Under) (signatures : List (List (ℕ × ℕ))) (old new : Search) (k : ℕ) (enters : Bool) : Type 0
   where
     pub reads : Reads u signatures old new (k + 1)
@@ -196,8 +201,9 @@ module _ {u : Under} {signatures : List (List (ℕ × ℕ))} {first w : Search} 
       same_last : i ≡ length w.frames - 1
       same_last = omega (arith, stays.size, last)
 
-      -- Suppose that the search first processes the transition at the place (index) k, and then marks it as read. Then
-      -- the search has read the transitions up to and including this transition (`Marked`).
+      -- Suppose that the search has read all transitions of the current state before the place (index) k. It then first
+      -- processes the transition at the place k, and afterwards marks it as read. Then the invariant of the search
+      -- still holds (`Marked`).
       taken_first : (m : Search) (enters : Bool) → HandlesStep u.l.places step w m enters
           → Marked u signatures first (record m { frames = set m.frames i x }) k enters
       taken_first m enters takes =
@@ -227,8 +233,9 @@ module _ {u : Under} {signatures : List (List (ℕ × ℕ))} {first w : Search} 
           let one = price_one_more u.visited (top first.frames).next k reads.forward in
           grind (arith, on, here, remaining, is_next, next, before, took, reads, one, length-set m.frames i x, stays)
 
-      -- Suppose that the search first marks the transition at the place (index) k as read, and then processes it. Then
-      -- the search has read the transitions up to and including this transition (`Marked`).
+      -- Suppose that the search has read all transitions of the current state before the place (index) k. It then first
+      -- marks the transition at the place k as read, and afterwards processes it. Then the invariant of the search
+      -- still holds (`Marked`).
       pub marked : {m : Search} {enters : Bool} →
           HandlesStep u.l.places step (record w { frames = set w.frames i x }) m enters
           → Marked u signatures first m k enters

@@ -1,14 +1,16 @@
--- Helper definitions for the proofs about the search. They return parts of the data of a search. One of these parts is
--- the last root, which is the first state of the component at the top of the stack.
+-- Helper definitions and lemmas for the proofs about the search. The definitions return parts of the data of a search.
+-- A component is a strongly connected set of states on the stack. For example, one definition returns the first state
+-- of the component at the top of the stack.
 use Rattle.std.proofs.Common.{ℕ, ◌-◌, ◌<◌, ◌≤◌, List, length, take, get_or, arith}
 use Rattle.std.specs.List.{All, AllPairs}
 use Rattle.std.proofs.lemmas.Grind.{elements}
 use Rattle.std.proofs.lemmas.List.Elements.{All-from_get_or}
 use Rattle.inert.specs.Search.{Search, Frame, Root, top, root_at}
 
--- A frame has the outgoing transitions of a state on the stack that are still to be read. A root is the first state of
--- a component on the stack. These are the default values of frames and roots, which are returned for an index outside a
--- list of frames or roots. All fields of these values are 0.
+-- A component is a strongly connected set of states on the stack. Each frame belongs to a state on the stack, and
+-- records which outgoing transitions of this state are still to be read. A root is the first state of a component on
+-- the stack. The following two values are the defaults for frames and roots. A default is returned for an index outside
+-- a list of frames or roots. All fields of these values are 0.
 abbrev pub no_frame : Frame
 no_frame = record { height = 0; next = 0; end = 0 }
 
@@ -20,13 +22,15 @@ no_root = record { height = 0; items = 0 }
 abbrev pub here : Search → ℕ
 here w = (top w.frames).height
 
--- Returns the last root, which is the first state of the component at the top of the stack.
+-- A component is a strongly connected set of states on the stack. Returns the last root, which is the first state of
+-- the component at the top of the stack.
 abbrev pub last : List Root → Root
 last roots = root_at roots (length roots - 1)
 
--- The root of a component is its first state on the stack, and has the index at which the items of the component begin.
--- An item is a pair (label ID, block) or a signature ID. `IsBefore` holds if the root x is below the root y on the
--- stack, and the items of the component of x do not begin after the items of the component of y.
+-- A component is a strongly connected set of states on the stack. The root of a component is its first state on the
+-- stack. The component collects items, which are pairs (label ID, block) and signature IDs. `IsBefore` holds under two
+-- conditions. First, the root x is below the root y on the stack. Second, the items of the component of y begin at the
+-- same index of the list of items as the items of the component of x, or at a greater index.
 abbrev pub IsBefore : Root → Root → Type 0
 IsBefore x y = (x.height < y.height) × (x.items ≤ y.items)
 

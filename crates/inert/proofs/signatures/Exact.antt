@@ -1,6 +1,8 @@
--- Proves that the search computes correct signatures. The last component is the component at the top of the stack. It
--- has collected items, and an item is a pair (label ID, block) or a signature ID. If all outgoing transitions of the
--- states of this component were read, its items represent exactly the pairs of the signature of each of its states.
+-- Proves that the search computes correct signatures. The last component is the strongly connected set of states at the
+-- top of the stack. It has collected items, which are pairs (label ID, block) and signature IDs. A signature ID
+-- represents all pairs of the signature with this ID. Suppose that all outgoing transitions of the states of the last
+-- component were read. Then the pairs that its items represent are exactly the pairs of the signature of each of its
+-- states.
 use Rattle.std.proofs.Common.{rules, ◌≡◌, ℕ, ◌+◌, ◌-◌, ◌<◌, ◌≤◌, List, [], ◌∷◌, length, drop, get_or, slice_index, sym}
 use Rattle.std.proofs.Common.{◌∙◌, subst, inl, inr, arith, Contains}
 use Rattle.std.proofs.lemmas.Grind.{common_steps}
@@ -18,7 +20,8 @@ use Rattle.inert.proofs.parts.Tops.{here, last, no_root}
 use Rattle.inert.specs.SearchMoves.{IsUnionOfItems, HasRead}
 use Rattle.inert.proofs.invariant.Standing.{pair_before, list_signed, last_low, last_most, last_frame, none_ahead}
 
--- A place is an index in the list of all transitions. Each step of the system is the transition at some place.
+-- A place is an index in the list of all transitions. For each step of the system, there is a place at which the
+-- transition has the same source, label and target as the step.
 pub step_place : (l : Grouped) (s t : ℕ) (a : List ℕ) → Step (system_of l) s a t →
     (k : ℕ) × (k < length l.places) × (source_of (place_at l.places k) ≡ s)
     × (text_of l.labels (label_of (place_at l.places k)) ≡ a) × (target_of (place_at l.places k) ≡ t)
@@ -36,9 +39,9 @@ place_step l k h =
 module _ (laws : Laws) {u : Under} (lts : IsLts u.l) {signatures : List (List (ℕ × ℕ))} {w : Search}
     (walks : SearchInvariant u signatures w)
     (some : 0 < length w.frames) (read : HasRead w) (height : (last w.roots).height ≡ here w) where
-  -- The last component is the component at the top of the stack. It has collected the items from the index `c0` on. An
-  -- item is a pair (label ID, block) or a signature ID, and a signature ID represents all pairs of its signature.
-  -- `Collected` holds if some item of the last component represents the pair z.
+  -- The last component is the strongly connected set of states at the top of the stack. It has collected the items from
+  -- the index `c0` on. An item is a pair (label ID, block) or a signature ID, and a signature ID represents all pairs
+  -- of its signature. `Collected` holds if some item of the last component represents the pair z.
   abbrev c0 : ℕ
   c0 = (last w.roots).items
 
@@ -53,18 +56,19 @@ module _ (laws : Laws) {u : Under} (lts : IsLts u.l) {signatures : List (List (�
       grind (arith, common_steps, is, low, get_or-drop, get_or_default) in
       (item_at w.items j, (j - c0, omega (arith, length-drop c0 w.items, low, from), at), g)
 
-  -- Suppose that all transitions of the states in the last component, which is the component at the top of the stack,
-  -- were read. Then each of these transitions was processed. If the transition is inert, the search has followed it. If
-  -- the transition is not inert, the component has collected its pair (label ID, target block).
+  -- The last component is the strongly connected set of states at the top of the stack. Suppose that all transitions of
+  -- its states were read. Then each of these transitions was processed (`IsHandled`). If the transition is inert, the
+  -- search has followed it. If the transition is not inert, the component has collected the pair (label ID, target
+  -- block) of the transition.
   done : (p k : ℕ) → here w ≤ p → p < length w.stack → k < length u.l.places
       → source_of (place_at u.l.places k) ≡ slice_index w.stack p → IsHandled u signatures w p (place_at u.l.places k)
   done p k h lp lk source = let left = none_ahead walks read p k in
       grind (arith, walks.accounted p k lp lk source, left, last_frame walks, h, lk, source)
 
-  -- The last component is the component at the top of the stack. Its items are pairs (label ID, block) and signature
-  -- IDs, and a signature ID represents all pairs of its signature. Suppose that a path of inert steps leads from a
-  -- state in the last component to a state with a transition that is not inert. Then some item of the last component
-  -- represents the pair (label ID, target block) of this transition.
+  -- The last component is the strongly connected set of states at the top of the stack. Its items are pairs (label ID,
+  -- block) and signature IDs, and a signature ID represents all pairs of its signature. Suppose that a path of inert
+  -- steps leads from a state in the last component to a state with a transition that is not inert. Then some item of
+  -- the last component represents the pair (label ID, target block) of this transition.
   collects : (z : ℕ × ℕ) (us : List ℕ) (p : ℕ) → here w ≤ p → p < length w.stack → (v t : ℕ)
       → Along (Inert (system_of u.l) (slice_index u.blocks)) (slice_index w.stack p) us v
       → Step (system_of u.l) v (text_of u.l.labels z.0) t → slice_index u.blocks t ≡ z.1
@@ -95,9 +99,9 @@ module _ (laws : Laws) {u : Under} (lts : IsLts u.l) {signatures : List (List (�
         ]
       ]
 
-  -- The last component is the component at the top of the stack. Its items are pairs (label ID, block) and signature
-  -- IDs, and a signature ID represents all pairs of its signature. Each pair that an item of the last component
-  -- represents is in the signature of each state of this component.
+  -- The last component is the strongly connected set of states at the top of the stack. Its items are pairs (label ID,
+  -- block) and signature IDs, and a signature ID represents all pairs of its signature. If an item of the last
+  -- component represents a pair, this pair is in the signature of each state of the component.
   sound : (p : ℕ) → here w ≤ p → p < length w.stack → (z : ℕ × ℕ) → Collected z →
       HasPair Branching u.l u.blocks (slice_index w.stack p) z.0 z.1
   sound p h lp z (x, (i, low, at), g) =
@@ -108,9 +112,10 @@ module _ (laws : Laws) {u : Under} (lts : IsLts u.l) {signatures : List (List (�
       (all z (subst (λ y. GivesPair signatures y z) (sym at ∙ get_or-drop c0 w.items i x
       ∙ get_or_default w.items (c0 + i) x _ low') g))
 
-  -- The last component is the component at the top of the stack. Its items are pairs (label ID, block) and signature
-  -- IDs, and a signature ID represents all pairs of its signature. If an interned signature has exactly the pairs that
-  -- the items of the last component represent, it is the signature of each state of this component.
+  -- The last component is the strongly connected set of states at the top of the stack. Its items are pairs (label ID,
+  -- block) and signature IDs, and a signature ID represents all pairs of its signature. Suppose that the pairs of an
+  -- interned signature are exactly the pairs that the items of the last component represent. Then this signature is the
+  -- signature of each state of the component.
   module _ {lists' : List (List (ℕ × ℕ))} {id : ℕ} (listed : IsUnionOfItems (drop c0 w.items) signatures lists' id)
     where
       pub exact : (p : ℕ) → here w ≤ p → p < length w.stack → IsSigned u (slice_index w.stack p) lists' id

@@ -1,5 +1,6 @@
--- Lemmas about the cached signatures of all states after the search has completed the active states (the states that
--- the round processes), and about the signature IDs that are then used to split the blocks.
+-- Lemmas about two lists of signature IDs after the search has completed the active states, which are the states that
+-- the round processes. The first list has the ID of the cached signature of each state. The second list has the IDs
+-- that are used to split the blocks.
 use Rattle.std.proofs.Common.{◌≡◌, ◌⊎◌, ℕ, ◌<◌, List, length, slice_index, ◌∙◌, sym, arith}
 use Rattle.std.proofs.lemmas.Grind.{common_steps}
 use Rattle.std.proofs.lemmas.Bool.{cases_lt}
@@ -11,8 +12,9 @@ use Rattle.inert.specs.Search.{Search, stage_at, id_of, cached, IsFinished, HasE
 use Rattle.inert.specs.SearchMoves.{ReturnsToRest}
 use Rattle.inert.proofs.invariant.Resting.{kept_is, cached_at, kept_past, unvisited}
 
--- The active states are the states that the round processes. These lemmas assume that all states were completed and the
--- active states were then marked as unvisited. They also assume that the search has completed the active states again.
+-- The active states are the states that the round processes. These lemmas assume that three events happened one after
+-- the other. First, all states were completed. Second, the active states were marked as unvisited. Third, the search
+-- has completed the active states again.
 module _ {u : Under} {before signatures : List (List (ℕ × ℕ))} {active : List ℕ} {first woken done : Search}
     (had : CachesBeside u.l u.blocks active before (cached first.stages)) (over : HasEnded first)
     (woke : AreMarkedUnvisited first.stages active woken) (back : ReturnsToRest u before signatures woken done)
@@ -35,9 +37,9 @@ module _ {u : Under} {before signatures : List (List (ℕ × ℕ))} {active : Li
       }
 
   -- The active states are the states that the round processes. These lemmas make two assumptions. First, before the
-  -- search, the cached signature ID of each active state was written to the list `old`. The list after these writes is
-  -- called `put`. Second, after the search, each of these IDs in `put` was replaced by the ID that is used to split the
-  -- blocks. The list after these replacements is called `signature_ids`.
+  -- search, the cached signature ID of each active state was written to the list `old`, which changes this list to
+  -- `put`. Second, after the search, each of the IDs that were written was replaced by the ID that is used to split the
+  -- block of the state, which changes the list `put` to `signature_ids`.
   module _ (old put signature_ids : List ℕ) (none : InactiveHaveNone active old)
       (sizes : length signature_ids ≡ length old)
       (were : (i : ℕ) → i < length active → let s = slice_index active i in
@@ -53,8 +55,9 @@ module _ {u : Under} {before signatures : List (List (ℕ × ℕ))} {active : Li
         IsIdIfChanged (slice_index (cached first.stages) s) (slice_index now s) (slice_index signature_ids s)
     all_shown s one = grind (arith, common_steps, kept_is, first.stages, done.stages)
 
-    -- After the search, the cached signature ID of each active state (each state that the round processes) is the ID of
-    -- its signature, and the cached signature ID of every other state has not changed (`SignsActive`).
+    -- The active states are the states that the round processes. After the search, the cached signature ID of each
+    -- active state is the ID of its signature, and the cached signature ID of every other state has not changed
+    -- (`SignsActive`).
     pub signs_active : SignsActive u.l u.blocks active before signatures (cached first.stages) now signature_ids
         × InactiveHaveNone active signature_ids
     signs_active = (

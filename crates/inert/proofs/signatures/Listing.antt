@@ -1,5 +1,6 @@
 -- Lemmas about the signature that a list of items represents, where an item is a pair (label ID, block) or a signature
--- ID. The signature has each pair that is an item, and all pairs of each signature whose ID is an item.
+-- ID. The signature contains each pair that is one of the items. It also contains all pairs of each signature whose ID
+-- is one of the items.
 use Rattle.std.proofs.Common.{◌≡◌, ◌⊎◌, ◌↔◌, ℕ, ◌+◌, ◌<◌, List, [], ◌∷◌, ◌++◌, length, take, slice_index, Contains}
 use Rattle.std.proofs.Common.{nat_eq, refl, ◌∙◌, ap, subst, inl, inr, arith}
 use Rattle.std.specs.List.Retain.{IsFiltered, DiffersFromLast}
@@ -16,8 +17,8 @@ use Rattle.signatures.specs.Lists.{list_at, AreLists, AreIds, Grow, HasOne}
 use Rattle.inert.specs.Search.{AreInternedItems, GivesPair, item_at, Item, Pair, Interned}
 use Rattle.inert.specs.SearchMoves.{AreCollected, IsUnionOfItems}
 
--- Let the element x be appended to the list xs, and the element y to the list ys. Suppose that two implications hold:
--- if xs contains x', then ys contains y', and if x equals x', then y equals y'. If the longer list xs contains x', then
+-- Let the element x be appended to the list xs, and let the element y be appended to the list ys. Suppose that ys
+-- contains y' if xs contains x'. Suppose also that y equals y' if x equals x'. Then, if the longer list xs contains x',
 -- the longer list ys contains y'.
 more : {X Y : Type 0} (xs : List X) (ys : List Y) {x x' : X} {y y' : Y} → (Contains xs x' → Contains ys y')
     → (x ≡ x' → y ≡ y') → Contains (xs ++ x ∷ []) x' → Contains (ys ++ y ∷ []) y'
@@ -29,8 +30,9 @@ more xs ys {x = x} {x' = x'} {y = y} {y' = y'} old new c = elim (Contains-push_c
 less : {X : Type 0} (xs : List X) {x x' : X} → ¬ (x ≡ x') → Contains (xs ++ x ∷ []) x' → Contains xs x'
 less xs {x = x} {x' = x'} other c = elim (Contains-push_cases xs x x' c) [ inl was ↦ was | inr e ↦ absurd (other e) ]
 
--- An item is a pair (label ID, block) or a signature ID. These lemmas assume that `pairs` and `signature_ids` have the
--- pairs and the signature IDs among the first n items, and that the item at the index n is next.
+-- An item is a pair (label ID, block) or a signature ID. These lemmas assume that the first n items in the list `all`
+-- were collected: their pairs are in the list `pairs`, and their signature IDs are in the list `signature_ids`. The
+-- lemmas show that `AreCollected` holds again after the next item, which is at the index n, was collected.
 module _ (all : List Item) (n : ℕ) (signature_ids : List ℕ) (pairs : List (ℕ × ℕ)) (low : n < length all)
     (taken : AreCollected (take n all) signature_ids pairs) where
   abbrev xs : List Item
@@ -65,16 +67,17 @@ taken_ordered items xs ys zs pairs taken same filtered = rw (dedup_is nat_eq ys 
 
 module _ (items : List Item) (signatures : List (List (ℕ × ℕ))) (signature_ids : List ℕ) (pairs : List (ℕ × ℕ))
     (taken : AreCollected items signature_ids pairs) where
-  -- An item is a pair (label ID, block) or a signature ID. Each signature ID in the list `signature_ids` is one of the
-  -- items.
+  -- An item is a pair (label ID, block) or a signature ID. Suppose that the list `signature_ids` has exactly the
+  -- signature IDs among the items. Then the signature ID at each index of this list is one of the items.
   listed_at : (i : ℕ) → i < length signature_ids → Contains items (Interned (slice_index signature_ids i))
   listed_at i low = (taken.named (slice_index signature_ids i)).0 (Contains-get_or signature_ids i 0 low)
 
   pub numbers_there : AreInternedItems signatures items → AreIds signatures signature_ids
   numbers_there there i d low = grind (arith, elements, there, listed_at i low)
 
-  -- An item is a pair (label ID, block), or the ID of a signature, which represents all pairs of this signature. Each
-  -- pair that an item represents is in the list `pairs`, or is in a signature whose ID is in the list `signature_ids`.
+  -- An item is a pair (label ID, block) or a signature ID. A signature ID represents all pairs of the signature with
+  -- this ID. Suppose that an item represents a pair. Then the pair is in the list `pairs`, or the pair is in a
+  -- signature whose ID is in the list `signature_ids`.
   gives : (z : ℕ × ℕ) (x : Item) → Contains items x → GivesPair signatures x z → Contains pairs z
       ⊎ HasOne signatures signature_ids z
   gives z (Pair a b) c g = inl (subst (Contains pairs) g ((taken.own a b).1 c))

@@ -9,9 +9,10 @@ use Rattle.inert.proofs.signer.search_all.Given.{Over}
 use Rattle.inert.proofs.signer.search_all.Goals as goal
 use Rattle.inert.proofs.signer.search_all.Goals.{After-is_unvisited}
 
--- The loop goes through the active states (the states that the round processes), from the last to the first. Suppose
--- that all active states after the index i are completed, and that the active state at the index i is completed too.
--- Then all active states from the index i on are completed.
+-- The loop goes through the active states (the states that the round processes), from the last to the first. Let i be
+-- the index of the current state in the list of the active states. Suppose that the active states at the indices after
+-- i are completed, and that the current state is completed too. Then all active states from the index i on are
+-- completed.
 module _ (g : Over) (c : After-is_unvisited g) where
   abbrev i : ℕ
   i = c.loop-i.i - 1

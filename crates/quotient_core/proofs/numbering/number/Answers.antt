@@ -13,7 +13,8 @@ use Rattle.quotient_core.proofs.numbering.number.Goals as goal
 use Rattle.quotient_core.proofs.numbering.number.Goals.{In_ok-vec-2}
 
 module _ (g : Over) (c : In_ok-vec-2 g) where
-  -- The system and its blocks satisfy the assumptions of the proofs (`Laws`).
+  -- If the blocks are the classes of bisimilar states, then the system and its blocks satisfy the assumptions of the
+  -- proofs about the loop of `number` (`Laws`).
   laws : (rel : Relation) → AreClasses rel c.args.l.now c.args.blocks.block_ids →
       Laws rel (system_of c.args.l.now) (slice_index c.args.blocks.block_ids)
   laws rel classes = let A = system_of c.args.l.now in

@@ -8,8 +8,8 @@ use Rattle.quotient_core.proofs.quotient.quotient_of.Given.{Over}
 use Rattle.quotient_core.proofs.quotient.quotient_of.Goals as goal
 use Rattle.quotient_core.proofs.quotient.quotient_of.Goals.{After-new-rows, In_ok-shown, After-len}
 
--- The system and the class numbers of its states (the quotient states that represent them) satisfy the assumptions of
--- the proofs (`IsNumbered`).
+-- The class number of a state is the number of the quotient state that represents it. The system and the class numbers
+-- of its states satisfy the assumptions of the proofs about the quotient (`IsNumbered`).
 is : (g : Over) (c : After-new-rows g) → IsNumbered c.args.r c.args.l.now c.args.numbering.now c.dropped.result
 is g c = let r = c.args.r in
     let l = c.args.l.now in

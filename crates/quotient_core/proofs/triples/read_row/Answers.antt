@@ -9,8 +9,9 @@ use Rattle.quotient_core.proofs.triples.read_row.Given.{Over}
 use Rattle.quotient_core.proofs.triples.read_row.Goals as goal
 use Rattle.quotient_core.proofs.triples.read_row.Goals.{After-leaves_out}
 
--- The row of a state is the list of its transitions. The quotient transition of the transition at the place `k` follows
--- the quotient transitions that come from the part of the row before `k`, unless the quotient leaves it out.
+-- The row of a state is the list of its transitions. Consider the list of the quotient transitions that come from the
+-- transitions of the row before the place `k`. If the quotient does not leave out the transition at the place `k`, the
+-- quotient transition of this transition is appended to the list. Otherwise, the list stays the same.
 more : (g : Over) (c : After-leaves_out g) → let rows = c.args.rows.now in let row = row_of c.args.s rows.l.places in
     let shown = λ (es : List Triple). filter (λ x. not (is_left_out rows.dropped x))
     (map (between_numbers rows c.args.s) es) in

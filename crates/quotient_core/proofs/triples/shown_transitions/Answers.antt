@@ -19,8 +19,9 @@ pub returns-in_err-add_class-clause-visits : goal.returns-in_err-add_class-claus
 returns-in_err-add_class-clause-visits g c = visits_then c.loop-number.invariant.visits c.read_class.ensures.visits
     (rows_fit c.args.rows.now c.loop-number.number)
 
--- The list of the quotient transitions (transitions between quotient states) of a class is sorted, and its repeated
--- elements are removed. Afterwards the list still has exactly the quotient transitions of the class.
+-- A quotient transition is a transition between quotient states. The list of the quotient transitions of a class is
+-- sorted, and its repeated elements are removed. Afterwards the list still has exactly the quotient transitions of the
+-- class.
 tidy : (g : Over) (c : After-edges g) →
     HasShown c.args.rows.now (is_member c.args.rows.now c.loop-number.number) c.dedup.new.self.items
 tidy g c = let short : length c.dedup.new.self.items ≤ length c.read_class.new.class.items = search rules in

@@ -20,8 +20,9 @@ pub step-step-requires-clause-room : goal.step-step-requires-clause-room
 step-step-requires-clause-room g c = let i = c.loop-k.invariant in
     omega (arith, c.requires.room, i.cost, i.begun.less, price_first c.args.lens.now.visited _ _ c.loop-k-test.true)
 
--- A visit is a counted read of a transition. When the search has read a transition of its first state, the number of
--- visits that it has made is at most the number of transitions whose sources were unvisited when the search began.
+-- A visit is a counted read of a transition. Suppose that the search has just read a transition of its first state.
+-- Then the number of visits that the search has made since it began is at most the number of transitions that needed a
+-- visit and had an unvisited source when the search began.
 spent : (g : Over) (c : After-step-step g) → Costs (g.M.Meter.counted c.args.m.now)
     (g.M.Meter.counted c.step-step.new.m) 0 0 (unread (remaining c.args.lens.now) c.args.self.now.stages)
 spent g c = let i = c.loop-k.invariant in
@@ -36,9 +37,9 @@ loop-k-preserved g c = let i = c.loop-k.invariant in
     let one = price_one_more c.args.lens.now.visited _ _ i.begun.forward in
     grind (arith, common_steps, b, i.cost, c.step-step.ensures.visit, one)
 
--- This lemma covers the case in which the first state of the search was pushed on the stack with a frame, which has the
--- outgoing transitions of the first state that are still to be read. The transition at the place k (the index k in the
--- list of all transitions) was processed after the push.
+-- This lemma covers the case in which the search has pushed its first state on the stack with a frame. The frame
+-- records which outgoing transitions of the first state are still to be read. After the push, the search has processed
+-- the transition at the place k (the index k in the list of all transitions).
 pub returns-then-leads_on : goal.returns-then-leads_on
 returns-then-leads_on g c = let i = c.loop-k.invariant in
     let went = takes_framed c.invariants.ensures.laws c.invariants.ensures.lts i.same i.begun c.loop-k-test.true
@@ -58,8 +59,8 @@ pub returns-in_err-handle_step-2-clause-cost : goal.returns-in_err-handle_step-2
 returns-in_err-handle_step-2-clause-cost g c = spent g
     (goal.at.returns-in_err-handle_step-2-clause-cost g c).After-step-step
 
--- This lemma covers the case in which no state was pushed on the stack. The first state is completed as soon as all of
--- its outgoing transitions were read.
+-- This lemma covers the case in which the search has pushed no state on the stack. The first state is completed as soon
+-- as all of its outgoing transitions were read.
 pub returns : goal.returns
 returns g c = let i = c.loop-k.invariant in
     let ended = begun_ends c.invariants.ensures.laws c.invariants.ensures.lts i.same i.begun c.loop-k-test.false

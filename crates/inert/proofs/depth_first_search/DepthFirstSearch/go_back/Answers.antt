@@ -9,9 +9,10 @@ use Rattle.inert.proofs.depth_first_search.DepthFirstSearch.go_back.Given.{Over}
 use Rattle.inert.proofs.depth_first_search.DepthFirstSearch.go_back.Goals as goal
 use Rattle.inert.proofs.depth_first_search.DepthFirstSearch.go_back.Goals.{After-pop}
 
--- The variable `root` in the body of `go_back` is the root of the last component, and a root is the first state of a
--- component on the stack. A frame has the outgoing transitions of a state on the stack that are still to be read. After
--- the last frame is popped, the search still has all other frames.
+-- A component is a strongly connected set of states on the stack. The root of a component is its first state on the
+-- stack. The variable `root` in the body of `go_back` is the root of the component at the top of the stack. Each frame
+-- belongs to a state on the stack, and records which outgoing transitions of this state are still to be read. When
+-- `go_back` has popped the last frame, no other data of the search have changed.
 module _ (g : Over) (c : After-pop g) where
   root : c.index-root.result.now ≡ last c.args.self.now.roots
   root = let low = last_low c.requires.walks c.requires.some in

@@ -20,8 +20,8 @@ module _ (g : Over) (c : After-index g) where
   state = let on = on_stack c.requires.walks c.requires.some in
       grind (arith, common_steps, on, get_or_read, c.index.ensures, c.top_frame-frame.ensures, c.self.view_is)
 
-  -- A visit is a counted read of a transition. Reading the next transition takes 0 or 1 visits. This number of visits
-  -- is at most the number of visits that the search still has to make.
+  -- A visit is a counted read of a transition. Reading the next transition takes 0 or 1 visits. This number is at most
+  -- the number of visits that the search still has to make.
   most : {w : Search} {k : ℕ} → Reads c.args.lens.now c.args.signatures.now c.args.self.now w k
       → Stays c.args.self.now w
       → k < c.top_frame-frame.result.end → price c.args.lens.now.visited k ≤ ahead c.args.lens.now w
@@ -44,7 +44,7 @@ step-step-requires-clause-room g c = let i = c.loop-k.invariant in
     let most = most g (goal.at.step-step-requires-clause-room g c).After-index i.reads i.stays c.loop-k-test.true in
     omega (arith, c.requires.room, i.cost, i.reads.less, most)
 
--- Let k be the place of a transition (its index in the list of all transitions). Each iteration of the loop marks the
+-- The place of a transition is its index in the list of all transitions. Each iteration of the loop in `read` marks the
 -- transition at the place k as read, and then processes this transition (`Marked`).
 taken : (g : Over) (c : In_ok-handle_step g) → Marked c.args.lens.now c.args.signatures.now c.args.self.now
     c.handle_step.new.self c.loop-k.k c.in_ok-handle_step.field-0

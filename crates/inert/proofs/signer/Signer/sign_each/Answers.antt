@@ -10,13 +10,15 @@ use Rattle.inert.proofs.signer.Signer.sign_each.Goals as goal
 use Rattle.inert.proofs.signer.Signer.sign_each.Goals.{After-new-lens}
 
 module _ (g : Over) (c : After-new-lens g) where
-  -- The view `lens` has the system, the blocks and the set of visited transitions that were passed to `sign_each`.
+  -- The view `lens` consists of the system, the blocks and the visited transitions that the caller has passed to
+  -- `sign_each`.
   is : c.new-lens.result ≡ under c.args.l.now c.args.blocks.now.block_ids c.args.visited.now
   is = c.new-lens.ensures ∙ ap₂ (under c.args.l.now) c.block_ids.ensures.block_ids c.any.ensures
 
   -- The depth-first search stores a status (unvisited, on the stack, or completed) for each state of the system. The
-  -- status of a completed state contains the ID of its cached signature. The list of these cached IDs satisfies the
-  -- requirement of `sign_each` (`CachesBeside`).
+  -- status of a completed state contains the ID of its cached signature. The cached IDs satisfy a condition that
+  -- `sign_each` requires (`CachesBeside`). In particular, the cached ID is correct for each state that is not active
+  -- (not processed in this round) but shares a block with an active state.
   had : CachesBeside c.new-lens.result.l c.new-lens.result.blocks c.active-active.result.now c.args.signatures.now
       (cached c.self.inside.search.stages)
   had = rw (is, c.active-active.ensures.active, c.self.view_is) c.requires.cached

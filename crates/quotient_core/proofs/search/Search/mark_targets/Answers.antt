@@ -18,12 +18,13 @@ row-start-requires g c = let held = c.requires.search in
     marked_below _ _ c.args.s held.size (held.each_waiting c.args.s (contains_here c.args.s _))
 
 module _ (g : Over) (c : In_ok-mark g) where
-  -- The target of the transition is a state of the system, so the list of marks has an entry for it.
+  -- The target of the transition that was just read is a state of the system, so the list of marks has an entry for
+  -- this target.
   below : c.edge-target.result.1 < length c.loop-k.self.marked.items
   below = search rules
 
-  -- Let s be the state whose transitions are read. If s is reachable, the target of each of these transitions is
-  -- reachable.
+  -- Let s be the state whose transitions are read. If s is reachable, the target of the transition that was just read
+  -- is reachable too.
   led_to : Reachable (system_of c.args.l.now) c.args.s → Reachable (system_of c.args.l.now) c.edge-target.result.1
   led_to from = let l = c.args.l.now in
       let e = place_at l.places c.loop-k.k in
