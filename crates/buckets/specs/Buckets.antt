@@ -11,9 +11,9 @@ pub record Tagged : Type 0 where
 abbrev pub tag_at : List ℕ → ℕ → ℕ
 tag_at tags r = slice_index_or tags r 0
 
--- Each entry of a hash table has an ID and a tag, which is a hash of 32 bits. `IsLast` holds if r is the last ID that
--- has the tag `tag`, is greater than 0, and is less than `end`. If no ID has these properties, `IsLast` holds if r is
--- 0.
+-- Each entry of a hash table has an ID and a tag, which is a hash of 32 bits. `IsLast` holds if r is the greatest ID
+-- that is greater than 0 and less than `end`, and whose entry has the tag `tag`. If there is no such ID, `IsLast` holds
+-- if r is 0.
 pub record IsLast (tags : List ℕ) (tag end r : ℕ) : Type 0 where
   pub below : 0 < end → r < end
   pub others : (q : ℕ) → r < q → q < end → tag_at tags q ≡ tag → ⊥

@@ -1,5 +1,5 @@
-//! The entries of a hash table, and the chains that link the entries in the same bucket, from the last entry to the
-//! first. Each entry has a tag, which is a hash and determines the bucket of the entry.
+//! The entries of a hash table, and the chains of its buckets. The chain of a bucket links all entries in this bucket,
+//! from the last entry to the first. Each entry has a tag, which is a hash and determines the bucket of the entry.
 ghost use Rattle.std.specs.Prelude.{◌≡◌, ℕ, ◌^◌, ◌+◌, ◌++◌, ◌∷◌, ◌<◌, ◌≤◌, [], length, slice_index};
 ghost use Rattle.std.specs.Vec.{vec_len, vec_capacity};
 ghost use Rattle.buckets.specs.Buckets.{IsLast};
@@ -70,8 +70,8 @@ pub(crate) fn add_entry(heads: &mut [u32], entries: &mut Vec<Entry>, tag: u32)
 }
 
 /// If there are more entries than buckets, this function adds buckets, up to `MOST_BUCKETS`, and puts all entries into
-/// the chains of their new buckets. A table with few entries has few buckets, and therefore stays in the cache of the
-/// processor.
+/// their new buckets. The entries in each bucket are linked into a chain. A table with few entries has few buckets, and
+/// therefore stays in the cache of the processor.
 ///
 /// If this function fails, the buckets do not change.
 pub(crate) fn widen(heads: &mut Vec<u32>, entries: &mut [Entry]) -> Result<(), Memory>
@@ -110,9 +110,9 @@ fn chain(heads: &mut [u32], entries: &mut [Entry])
 }
 
 /// Empties all buckets. If there are more buckets than entries, the number of buckets is reduced to the number of
-/// entries, but not below `FIRST_BUCKETS`. The number is reduced because a table seldom gets more entries later than it
-/// has now. If the number of entries is small in comparison with the number of buckets, the call empties only the
-/// buckets of these entries, since all other buckets are empty.
+/// entries, but not below `FIRST_BUCKETS`. The reason is that a table seldom gets more entries after this call than it
+/// has before this call. If there are far fewer entries than buckets, the call empties only the buckets of these
+/// entries, since all other buckets are already empty.
 pub(crate) fn empty(heads: &mut Vec<u32>, entries: &[Entry])
     requires { AreBuckets heads.old.items entries.now }
     ensures buckets { (0 < length heads.new.items) × (length heads.new.items < 2 ^ 32) }

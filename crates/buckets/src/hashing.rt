@@ -8,8 +8,8 @@ const SUM_FACTOR: u64 = 0xD6E8_FEB8_6659_FD93;
 
 /// Returns a hash of the numbers `first` and `second`. The function combines them into one number of 64 bits, and
 /// multiplies this number by a constant. The hash is the exclusive or of the upper and the lower half of the product,
-/// which has 128 bits. Because of the exclusive or, the sum of the hashes of several pairs of numbers does not depend
-/// only on the sums of the numbers.
+/// which has 128 bits. If the hash were only the lower half of the product, the sum of the hashes of two pairs of
+/// numbers would depend only on the sum of their first numbers and on the sum of their second numbers.
 ///
 /// Before the numbers are combined, 1 is added to `first`. Otherwise, if `first` is 0 and `second` is small, the upper
 /// half of the product would be small too, and the hash would depend almost linearly on `second`.

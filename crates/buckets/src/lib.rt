@@ -1,7 +1,7 @@
 //! This crate implements hash tables. Each entry of a table has an ID and a tag, which is a hash. For each tag,
-//! `Buckets` returns the IDs of all entries with this tag one by one, in descending order. The tables store no keys, so
-//! a caller that searches for a key has to compare it with the key of each returned ID. `Buckets::new`, `make_room` and
-//! `widen` fail only if there is no memory for the entries or the buckets.
+//! `Buckets` returns the IDs of all entries with this tag one by one, in descending order. The tables store no keys. So
+//! a caller that searches for a key has to compare this key with the key of each returned ID. `Buckets::new`,
+//! `make_room` and `widen` fail only if there is no memory for the entries or the buckets.
 #![tactic(auto)]
 
 mod chains;
@@ -79,8 +79,8 @@ impl Buckets {
         Ok(Buckets { heads, entries })
     }
 
-    /// This call is a lemma: it does nothing at run time. Its contract states properties that the tags (hashes) in
-    /// every table have.
+    /// This call is a lemma: it does nothing at run time. Its contract states properties that the tags (hashes of 32
+    /// bits) of every table have.
     pub fn invariants(&self)
         ensures some { 1 ≤ length self.now.tags }
         ensures few { length self.now.tags ≤ MOST_ENTRIES }

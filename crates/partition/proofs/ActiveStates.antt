@@ -12,19 +12,18 @@ use Rattle.partition.specs.Blocks.{AreActive, IsMember, AreSameOrNone}
 use Rattle.partition.specs.Splitting.{IsSingleton}
 use Rattle.std.proofs.lemmas.Bool.{cases_lt}
 
--- Suppose that the list `active` is in strictly ascending order, and that all its elements are less than s
--- (`AreActive`). If s is appended to `active`, the list is still in strictly ascending order, and all its elements are
--- less than s + 1.
+-- Suppose that the list `active` is in strictly ascending order, and that all of its elements are less than s
+-- (`AreActive`). If s is appended to `active`, the longer list is in strictly ascending order, and all of its elements
+-- are less than s + 1.
 pub rising_more : (active : List ℕ) (s : ℕ) → AreActive s active → AreActive (s + 1) (active ++ s ∷ [])
 rising_more active s rises = grind (arith, common_steps)
 
--- If all elements of the list `active` are less than s, they are also less than s + 1. So if the list satisfies
--- `AreActive` for s, it also satisfies `AreActive` for s + 1.
+-- Suppose that the list `active` is in strictly ascending order, and that all of its elements are less than s
+-- (`AreActive`). Then all of its elements are also less than s + 1.
 pub rising_later : (active : List ℕ) (s : ℕ) → AreActive s active → AreActive (s + 1) active
 rising_later active s rises = search rules
 
--- The relations `Contains` and `IsMember` are equivalent: a list contains s if and only if s is the element at some
--- index of the list.
+-- A list contains s (`Contains`) if and only if s is the element at some index of the list (`IsMember`).
 pub one_in : (xs : List ℕ) (s : ℕ) → Contains xs s → IsMember xs s
 one_in xs s c = (c.0, c.1, get_or_default xs c.0 0 s c.1 ∙ c.2)
 
@@ -41,8 +40,8 @@ one_last xs y = (length xs, grind (arith, common_steps), grind (arith, common_st
 one_or : (xs : List ℕ) (y s : ℕ) → IsMember (xs ++ y ∷ []) s → IsMember xs s ⊎ (y ≡ s)
 one_or xs y s one = grind (arith, common_steps)
 
--- Suppose that a list of numbers is strictly increasing, and that all its numbers are less than `states`. Then the list
--- satisfies `AreActive`, which is required of the list of active states (the states that a round processes).
+-- Suppose that a list of numbers is strictly increasing, and that all of its numbers are less than `states`. Then the
+-- list satisfies the conditions for a list of active states, which are the states that a round processes (`AreActive`).
 pub live_rising : (xs : List ℕ) (states : ℕ) → IsStrictlyIncreasing xs
     → ((i : ℕ) → i < length xs → slice_index xs i < states) → AreActive states xs
 live_rising xs states rises below =
@@ -50,10 +49,10 @@ live_rising xs states rises below =
     (λ k d h. rw (get_or_default xs k d 0 h) (below k h)) in
     grind (arith, AllPairs-from_increasing xs rises)
 
--- The active states are the states that a round processes. The loop of `without_singletons` goes through them, and
--- copies some of them to the list `left`. `LeftUpTo` holds after the first i active states. The states in `left` must
--- be among these i states. Each of these i states that is not in `left` must be the only state of its block, and must
--- have the empty signature.
+-- The active states are the states that a round processes. The loop of `without_singletons` goes through the active
+-- states, and copies some of them to the list `left`. `LeftUpTo` is the invariant of this loop after the first i active
+-- states. Each state in `left` is one of these i states. Each of these i states that is not in `left` is the only state
+-- of its block, and has the empty signature. The list `left` is in strictly ascending order.
 pub record LeftUpTo (of active : List ℕ) (i : ℕ) (old signature_ids left : List ℕ) : Type 0 where
   pub looks : AreActive (length of) active
   pub ascending : (states : ℕ) → ((j : ℕ) → j < i → slice_index active j < states) → AreActive states left
@@ -68,8 +67,8 @@ module _ {of active : List ℕ} {i : ℕ} {old signature_ids left : List ℕ}
   s = slice_index active i
 
   -- The loop goes through the active states, which are the states that a round processes, and copies some of them to
-  -- the list `left`. If the next active state is the only state of its block, and is not copied, then the invariant of
-  -- the loop (`LeftUpTo`) still holds.
+  -- the list `left`. Suppose that the next active state is the only state of its block. If the loop does not copy this
+  -- state, and gives it the empty signature, the invariant of the loop (`LeftUpTo`) still holds.
   pub left_without : s < length signature_ids → IsSingleton of s
       → LeftUpTo of active (i + 1) old (set signature_ids s 0) left
   left_without inside alone = let zero = get_or-set_same signature_ids s 0 0 inside in record {
@@ -81,7 +80,7 @@ module _ {of active : List ℕ} {i : ℕ} {old signature_ids left : List ℕ}
   }
 
   -- The loop goes through the active states, which are the states that a round processes, and copies some of them to
-  -- the list `left`. If the next active state is copied, then the invariant of the loop (`LeftUpTo`) still holds.
+  -- the list `left`. If the loop copies the next active state, the invariant of the loop (`LeftUpTo`) still holds.
   pub left_with : LeftUpTo of active (i + 1) old signature_ids (left ++ s ∷ [])
   left_with = record {
     looks = up.looks;

@@ -16,7 +16,7 @@ pub record InSpan (spans : List (ℕ × ℕ)) (b i : ℕ) : Type 0 where
   pub low : from spans b ≤ i
   pub high : i < to spans b
 
--- Returns the length of the span of the block b, which is the range of the indices at which the states of b are stored.
--- So its length equals the number of states of the block.
+-- Returns the length of the span of the block b. The span is the range of the indices at which the states of b are
+-- stored, so that its length is the number of states of b.
 abbrev pub span_size : List (ℕ × ℕ) → ℕ → ℕ
 span_size spans b = to spans b - from spans b

@@ -1,19 +1,22 @@
--- Defines how blocks are split by a value of each state. Two states are in the same block after the split if and only
--- if they were in the same block before and have the same value.
+-- Defines how blocks are split. A function gives a value to each state. Two states are in the same block after the
+-- split if and only if they were in the same block before the split and have the same value.
 use Rattle.std.specs.Prelude.{◌≡◌, ◌↔◌, ℕ, ◌<◌, ◌≤◌, List, length, slice_index}
 use Rattle.partition.specs.Partition.{AreBlocks}
 
--- `Alike` holds if the states s and t are in the same block before the split, and `has` gives both states the same
--- value.
+-- `Alike` holds under two conditions. First, the states s and t are in the same block before the split. Second, `has`
+-- gives the same value to both states.
 abbrev pub Alike : {X : Type 0} → List ℕ → (ℕ → X) → ℕ → ℕ → Type 0
 Alike old has s t = (slice_index old s ≡ slice_index old t) × (has s ≡ has t)
 
--- `IsSingleton` holds if the state s is the only state of its block.
+-- `IsSingleton` holds if the state s is the only state of its block. The list `old` has the block ID of each state.
 abbrev pub IsSingleton : List ℕ → ℕ → Type 0
 IsSingleton old s = (t : ℕ) → t < length old → slice_index old t ≡ slice_index old s → t ≡ s
 
--- `Splits` holds if splitting the blocks `old` by the value that `has` gives to each state results in the blocks `new`,
--- and if each state keeps its block ID or gets an ID of at least `count`.
+-- `Splits` compares the block IDs of all states before a split (`old`) and after it (`new`). There are `count` blocks
+-- before the split, and `more` blocks after it. `Splits` holds under three conditions. First, two states are in the
+-- same block after the split if and only if they were in the same block before the split and `has` gives them the same
+-- value. Second, each state keeps its block ID, or gets an ID of at least `count`. Third, if there are more blocks
+-- after the split than before, the split has separated two states of the same block.
 pub record Splits {X : Type 0} (old : List ℕ) (count : ℕ) (has : ℕ → X) (new : List ℕ) (more : ℕ) : Type 0 where
   pub states : length new ≡ length old
   pub blocks : AreBlocks new more

@@ -1,7 +1,7 @@
 //! This crate stores the blocks of a partition of the states, and splits each block by the signatures of its states.
 //!
-//! A block keeps its ID from split to split, and a new block gets the next free ID. At the end, the blocks are numbered
-//! in the order of their least members (`renumber`).
+//! When a block is split, one part keeps the ID of the block, and each other part gets the next free ID. At the end,
+//! the blocks are numbered in the order of their least members (`renumber`).
 //!
 //! A round of refinement processes the active states, and gives each of them the ID of its signature. Every other state
 //! has the empty signature, whose ID is 0. A split separates two states of a block if their signature IDs differ. The
@@ -26,11 +26,11 @@
 //! ```
 //!
 //! The span of a block is the range of `states` that the block occupies. The function `split_block` splits a block
-//! within its span, in three steps. First it counts the states with each signature (`tally`). Then it sorts the states
-//! by signature, with a counting sort (`sort_front`). Finally it divides the span where one signature ends and the next
-//! signature begins (`cut`).
+//! within its span, in three steps. First it counts how many states have each signature (`tally`). Then it sorts the
+//! states by signature, with a counting sort (`sort_front`). Finally it divides the span where one signature ends and
+//! the next signature begins (`cut`).
 //!
-//! * Before `with_positions` is called, all states of each block with more than one state are counted and sorted
+//! * Before `with_positions` is called, a split counts and sorts all states of each block with more than one state
 //!   (`split_all`). This is fast enough as long as rounds process many states.
 //! * After `with_positions` is called, the position of each state in `states` is stored (`position`), and rounds
 //!   usually process few states. First, the states whose signature is not empty are moved to the beginning of the span
@@ -45,9 +45,9 @@
 //! Besides the split itself (`splits`), `AreSplitBlocks` states two facts about the blocks before and after the split.
 //!
 //! * A new block has at most half of the states of its old block (`halves`). The parts of a block are the sets of its
-//!   states with the same signature, and the largest part keeps the block ID (Hopcroft 1971). So each of n states gets
-//!   a new block ID at most log2 n times, however many rounds there are. If the largest part got the new ID, the next
-//!   round would have to process all states with a transition into that part.
+//!   states with the same signature, and the largest part keeps the block ID (Hopcroft 1971). So if there are n states,
+//!   each of them gets a new block ID at most log2 n times, however many rounds there are. If the largest part got a
+//!   new ID, the next round would have to process all states with a transition into that part.
 //! * The set of active states does not change. States that are not active can also get new block IDs, like the state 7
 //!   in the example. So the search for the active states of the next round begins with all states of new blocks
 //!   (`new_states`).

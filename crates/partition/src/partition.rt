@@ -28,7 +28,7 @@ impl Model for Partition {
 }
 
 impl Partition {
-    /// Puts all states into one block. There may be 1 to 2,000,000 states.
+    /// Makes the partition in which all states are in one block. There may be 1 to 2,000,000 states.
     pub fn one(alloc: Global, states: u32) -> Result<Partition, Memory>
         requires some { 1 ≤ states }
         requires few { states ≤ MOST_STATES }
@@ -78,7 +78,8 @@ impl Partition {
     }
 }
 
-/// Gives new IDs to the blocks, in the order of their least members, and returns the partition with the new IDs.
+/// Gives new IDs to the blocks, and returns the partition with the new IDs. The new IDs are in the order of the least
+/// members of the blocks.
 pub fn renumber(alloc: Global, blocks: &[u32], count: u32) -> Result<Partition, Memory>
     requires { AreBlocks blocks.now count }
     ensures states { IfOk result (λ q. length q ≡ length blocks.now) }

@@ -1,6 +1,6 @@
 -- A list is stored as a base, which is a list of pairs that several lists can share, and as extra pairs, which the base
--- lacks. To compute the union of several lists, pairs are collected from the bases and from the extra pairs of these
--- lists. Extra pairs that are already in the base of the union are removed.
+-- lacks. To compute the union of several lists, the bases of the lists are united, and the extra pairs of the lists are
+-- collected. Collected pairs that are already in the base of the union are removed.
 use Rattle.std.proofs.Common.{rules, ◌≡◌, ◌⊎◌, ◌↔◌, ℕ, ◌+◌, Bool, true, not, List, slice_index, filter, Contains, ap}
 use Rattle.std.proofs.Common.{arith}
 use Rattle.std.specs.Cmp.{eq_by_cmp_equiv}
@@ -21,8 +21,9 @@ IsBeside extensions ids P z j =
     P (extension_at extensions (slice_index ids j)).0 × Contains (extension_at extensions (slice_index ids j)).1 z
 
 -- A list is stored as a base, which is a list of pairs that several lists can share, and as extra pairs, which the base
--- lacks. Suppose that, for each of the first i lists, the extra pairs have been collected if and only if P holds for
--- the base of the list. If the next list x is treated in the same way, this is also true of the first i + 1 lists.
+-- lacks. Suppose that a loop has gone through the first i lists, and has collected the extra pairs of exactly those
+-- lists whose base has an ID for which P holds. If the loop treats the next list x in the same way, this is also true
+-- of the first i + 1 lists.
 module _ (extensions : List (ℕ × List (ℕ × ℕ))) (ids : List ℕ) (P : ℕ → Type 0) (z : ℕ × ℕ) (x : ℕ × List (ℕ × ℕ))
     (i : ℕ) (is : x ≡ extension_at extensions (slice_index ids i)) {B D : Type 0}
     (before : B ↔ (D ⊎ SomeBelow (IsBeside extensions ids P z) i)) where
@@ -37,15 +38,17 @@ module _ (extensions : List (ℕ × List (ℕ × ℕ))) (ids : List ℕ) (P : �
 abbrev pub is_lacking : List (ℕ × ℕ) → ℕ × ℕ → Bool
 is_lacking list z = not (is_member (eq_by_cmp pair_cmp) list z)
 
--- Let the list xs be filtered by a test. A pair is in the filtered list if and only if it is in xs and passes the test.
+-- Suppose that the list xs is filtered by a test. Then a pair is in the filtered list if and only if the pair is in xs
+-- and passes the test.
 passing_has : (p : ℕ × ℕ → Bool) (xs : List (ℕ × ℕ)) (z : ℕ × ℕ) → Contains (filter p xs) z
     ↔ (Contains xs z × (p z ≡ true))
 passing_has p xs z =
     let same = is_member-filter (eq_by_cmp_equiv pair_total) p z (λ x e. ap p ((pair_Decides z x).0 e)) xs in
     grind (arith, has_pair (filter p xs) z, has_pair xs z, same, cases_Bool (p z))
 
--- Let `new` be `old` without the pairs that are in `list`. Then `new` has no pair in common with `list`, and `list`
--- together with `new` has the same pairs as `list` together with `old`.
+-- Suppose that the list `new` results from the list `old` by removing all pairs that are in `list`. Then `new` has no
+-- pair in common with `list`. The lists `list` and `new` together have the same pairs as the lists `list` and `old`
+-- together.
 module _ (list old new : List (ℕ × ℕ)) (is : new ≡ filter (is_lacking list) old) where
   pub lack_apart : ShareNone list new
   lack_apart z d e = grind (arith, is, passing_has (is_lacking list) old z, has_pair list z)

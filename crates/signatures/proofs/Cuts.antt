@@ -1,8 +1,9 @@
--- The split point of a list is the number that divides the list into two halves: the pairs that are less than this
--- number, and all other pairs. A list has at most one split point (`IsCut`). Let c be the split point of a range of
--- numbers (`IsCutPoint`), and suppose that the range includes the split point of a list. Then c is also the split point
--- of the list, or all pairs of the list are on one side of c. For these comparisons, each pair is represented by a
--- number (`pair_value`).
+-- The split point of a list is the number at which the list is divided into two halves (`IsCut`). To compare a pair
+-- with this number, the pair is represented by a number (`pair_value`). The first half has the pairs that are less than
+-- the split point, and the second half has all other pairs. A list has at most one split point. Suppose that a range of
+-- numbers includes the split point of a list. Among all numbers that are greater than the lower end of the range and at
+-- most its upper end, let c be the number that is divisible by the highest power of two (`IsCutPoint`). Then c is the
+-- split point of the list, or all pairs of the list are less than c, or all pairs of the list are at least c.
 use Rattle.std.proofs.Common.{rules, ◌≡◌, ◌∙◌, ℕ, ◌+◌, ◌-◌, ◌*◌, ◌/◌, ◌%◌, ◌^◌, ◌<◌, ◌≤◌, List, Contains, ap, sym, inl}
 use Rattle.std.proofs.Common.{inr, arith}
 use Rattle.std.proofs.Math.Pow.{shr_mono}
@@ -10,8 +11,8 @@ use Rattle.std.proofs.lemmas.Bool.{cases_lt, cases_order}
 use Rattle.std.proofs.lemmas.Nat.{shr-shr, div-add-mod'}
 use Rattle.signatures.specs.Cuts.{pair_value, IsCutPoint, IsAlike, IsCut, IsUnder, IsOver}
 
--- If two numbers have the same bits from the bit position m on, and n is at least m, then the two numbers have the same
--- bits from the bit position n on.
+-- Suppose that two numbers have the same bits at all bit positions from m on, and that n is at least m. Then the two
+-- numbers have the same bits at all bit positions from n on.
 lift : (a b m n : ℕ) → m ≤ n → a / 2 ^ m ≡ b / 2 ^ m → a / 2 ^ n ≡ b / 2 ^ n
 lift a b m n h e =
     let s : n ≡ m + (n - m) = omega arith in
@@ -22,8 +23,8 @@ lift a b m n h e =
 between : (bit z c y : ℕ) → c % 2 ^ bit ≡ 0 → z < c → c ≤ y → (z / 2 ^ bit < c / 2 ^ bit) × (c / 2 ^ bit ≤ y / 2 ^ bit)
 between bit z c y multiple below above = search rules
 
--- Suppose that c is a multiple of 2^bit, that z is less than c, and that y is at least c. If z and y have the same bits
--- at the bit positions above `bit`, then c is an odd multiple of 2^bit.
+-- Suppose that c is a multiple of 2^bit, that z is less than c, and that y is at least c. Suppose also that z and y
+-- have the same bits at all bit positions above `bit`. Then c is an odd multiple of 2^bit.
 odd : (bit z c y q : ℕ) → c % 2 ^ bit ≡ 0 → z < c → c ≤ y → z / 2 ^ (bit + 1) ≡ q → y / 2 ^ (bit + 1) ≡ q →
     c ≡ (2 * q + 1) * 2 ^ bit
 odd bit z c y q multiple below above first second =
@@ -35,8 +36,8 @@ odd bit z c y q multiple below above first second =
 
 module _ (list : List (ℕ × ℕ)) where
   -- Each pair is represented by a number (`pair_value`). Suppose that the numbers for all pairs of the list have the
-  -- same bits at all bit positions above `bit`. Then no multiple of a power of two that is higher than 2^bit lies
-  -- between the numbers for two pairs of the list.
+  -- same bits at all bit positions above `bit`. Suppose also that d is a multiple of a power of two that is higher than
+  -- 2^bit. Then the list cannot have both a pair that is less than d and a pair that is at least d.
   none_later : (bit later c d : ℕ) → IsAlike bit list c → bit < later → d % 2 ^ later ≡ 0
       → (z y : ℕ × ℕ) → Contains list z → Contains list y → pair_value z < d → d ≤ pair_value y → ⊥
   none_later bit later c d is more multiple z y in_z in_y below above =
@@ -57,10 +58,10 @@ module _ (list : List (ℕ × ℕ)) where
     | inr (inr high) ↦ search (rules, none_later, second.alike, first.alike.multiple, first.below, first.above)
   ]
 
-  -- Suppose that the range from `low` to `high` includes the split point of the list, which is the number that divides
-  -- the list into two halves. Let c be the split point of the range, which is the number at which a list with this
-  -- range is divided into two halves (`IsCutPoint`), and let 2^bit be the highest power of two that divides c. Then the
-  -- number that represents any pair of the list (`pair_value`) has the same bits as c at all bit positions above `bit`
+  -- The split point of a list is the number d at which the list is divided into two halves (`IsCut`). Suppose that d is
+  -- greater than `low` and at most `high`. Among all numbers that are greater than `low` and at most `high`, let c be
+  -- the number that is divisible by the highest power of two, 2^bit (`IsCutPoint`). Then, for each pair of the list,
+  -- the number that represents the pair (`pair_value`) has the same bits as c at all bit positions above `bit`
   -- (`IsAlike`).
   pub alike_wider : (bit low high c d : ℕ) → IsCutPoint bit low high c → IsCut list d → low < d → d ≤ high →
       IsAlike bit list c
@@ -81,8 +82,8 @@ module _ (list : List (ℕ × ℕ)) where
 
   -- Each pair is represented by a number (`pair_value`). Suppose that the numbers for all pairs of the list have the
   -- same bits as the number c at all bit positions above `bit` (`IsAlike`). Suppose also that c is not the split point
-  -- of the list, which is the number that divides the list into two halves. Then the numbers for all pairs of the list
-  -- are less than c, or they are all at least c.
+  -- of the list, which is the number at which the list is divided into two halves. Then the numbers for all pairs of
+  -- the list are less than c, or the numbers for all pairs of the list are at least c.
   pub all_under : (bit c d : ℕ) → IsAlike bit list c → IsCut list d → d < c → IsUnder list c
   all_under bit c d is own less z in_z =
       let same : c ≤ pair_value z → c ≡ d = λ h. cut_unique c d (search (rules, own.below)) own in
@@ -93,10 +94,10 @@ module _ (list : List (ℕ × ℕ)) where
       let same : pair_value z < c → c ≡ d = λ h. cut_unique c d (search (rules, own.above)) own in
       grind (arith, more, same)
 
-  -- Let c be the split point of the range from `low` to `high`, which is the number at which a list with this range is
-  -- divided into two halves (`IsCutPoint`), and let 2^bit be the highest power of two that divides c. Suppose that the
-  -- numbers that represent the pairs of a list (`pair_value`) are all in this range. Then these numbers have the same
-  -- bits as c at all bit positions above `bit` (`IsAlike`).
+  -- Among all numbers that are greater than `low` and at most `high`, let c be the number that is divisible by the
+  -- highest power of two, 2^bit (`IsCutPoint`). Suppose that, for each pair of a list, the number that represents the
+  -- pair (`pair_value`) is at least `low` and at most `high`. Then each of these numbers has the same bits as c at all
+  -- bit positions above `bit` (`IsAlike`).
   pub alike_within : (bit low high c : ℕ) → IsCutPoint bit low high c →
       ((z : ℕ × ℕ) → Contains list z → (low ≤ pair_value z) × (pair_value z ≤ high)) → IsAlike bit list c
   alike_within bit low high c place range =

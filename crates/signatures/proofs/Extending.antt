@@ -24,8 +24,8 @@ at_order P Less a b c f g h = f refl
 at_order P Equal a b c f g h = g refl
 at_order P Greater a b c f g h = h refl
 
--- The hash sum of a list is the sum of the hashes of its pairs. If two lists have no pair in common, then the hash sum
--- of their merge is the hash sum of the first list plus the hash sum of the second list.
+-- The hash sum of a list is the sum of the hashes of its pairs. Suppose that two lists have no pair in common. Then the
+-- hash sum of the merge of the two lists is the sum of their hash sums.
 sum_cons : (x : ℕ × ℕ) (xs : List (ℕ × ℕ)) → ((ys : List (ℕ × ℕ)) → ShareNone xs ys →
     sum_by hash_of (merged xs ys) ≡ sum_by hash_of xs + sum_by hash_of ys) → (ys : List (ℕ × ℕ))
     → ShareNone (x ∷ xs) ys → sum_by hash_of (merged (x ∷ xs) ys) ≡ sum_by hash_of (x ∷ xs) + sum_by hash_of ys
@@ -50,7 +50,7 @@ fingerprint_merged xs ys apart =
     sym (add-mod (sum_by hash_of xs) (sum_by hash_of ys) (2 ^ 64)) ∙ ap (λ n. n % 2 ^ 64) (sym (sum_merged xs ys apart))
 
 -- Suppose that a list has exactly the pairs of two other lists, and that all three lists are in strictly ascending
--- order. Then the first list is the merge of the other two lists.
+-- order. Then this list is the merge of the two other lists.
 pub unites_is_merged : (list few base : List (ℕ × ℕ)) → IsStrictlySortedBy pair_cmp list
     → IsStrictlySortedBy pair_cmp few → IsStrictlySortedBy pair_cmp base → Unites list few base → list ≡ merged base few
 unites_is_merged list few base rise rise_few rise_base unites =
@@ -60,9 +60,9 @@ unites_is_merged list few base rise rise_few rise_base unites =
 pub merged_fit : (xs ys : List (ℕ × ℕ)) → Fit xs → Fit ys → Fit (merged xs ys)
 merged_fit xs ys fit fit' z d = elim ((merged_has z xs ys).0 d) [ inl a ↦ fit z a | inr b ↦ fit' z b ]
 
--- Suppose that the number c divides each of two lists in strictly ascending order into a lower part, which has the
--- pairs less than c, and an upper part, which has the other pairs. Then the merge of the two lists is the merge of the
--- two lower parts, followed by the merge of the two upper parts.
+-- Suppose that two lists are in strictly ascending order, and that the number c divides each of them into two parts.
+-- The lower part has the pairs that are less than c, and the upper part has the other pairs. Then the merge of the two
+-- lists is the merge of the two lower parts, followed by the merge of the two upper parts.
 pub merged_halves : {list few below above below' above' : List (ℕ × ℕ)} {c : ℕ} → IsParted list c below above
     → IsParted few c below' above'
     → IsStrictlySortedBy pair_cmp list → IsStrictlySortedBy pair_cmp few → Fit list → Fit few

@@ -1,7 +1,8 @@
--- The split point of a list is the number that divides the list into two halves: the pairs that are less than this
--- number, and all other pairs. For this comparison, each pair is represented by a number (`pair_value`). The lemmas
--- show that the first and the last pair of the list determine its split point. They also show when two interned lists
--- are the halves of a list, and that the IDs of these two halves are unique.
+-- The split point of a list is the number at which the list is divided into two halves. To compare a pair with this
+-- number, the pair is represented by a number (`pair_value`). The first half has the pairs that are less than the split
+-- point, and the second half has all other pairs. The split point depends only on the first and the last pair of the
+-- list. These lemmas also show under which conditions two interned lists are the halves of a list, and that no two
+-- other interned lists are the halves of this list.
 use Rattle.std.proofs.Common.{rules, ◌≡◌, ℕ, ◌-◌, ◌<◌, ◌≤◌, List, [], ◌++◌, length, get_or, Contains, inl, inr, arith}
 use Rattle.std.proofs.Common.{min, max}
 use Rattle.std.specs.List.Sorted.{IsStrictlySortedBy}
@@ -19,21 +20,21 @@ use Rattle.signatures.proofs.Keys.{rising_keys, key_from_less, below_has, above_
 use Rattle.signatures.proofs.Rising.{rising_unique}
 use Rattle.std.proofs.lemmas.Map.Keys.{Less-from_sorted}
 
--- `HasEnds` holds if two conditions are satisfied, in which each pair is represented by a number (`pair_value`). First,
--- the list has a pair that is at most `low` and a pair that is at least `high`. Second, take any range from l to h that
--- includes `low` and `high`. Among all numbers that are greater than l and at most h, let c be the number that is
--- divisible by the highest power of two (`IsCutPoint`). Then c must have the same bits as each pair of the list at all
--- bit positions above `bit` (`IsAlike`), where 2^bit is the highest power of two that divides c.
+-- `HasEnds` holds under two conditions, in which each pair is represented by a number (`pair_value`). First, the list
+-- has a pair that is at most `low` and a pair that is at least `high`. Second, take any range from l to h that includes
+-- `low` and `high`. Among all numbers that are greater than l and at most h, let c be the number that is divisible by
+-- the highest power of two, 2^bit (`IsCutPoint`). Then each pair of the list has the same bits as c at all bit
+-- positions above `bit` (`IsAlike`).
 pub record HasEnds (list : List (ℕ × ℕ)) (low high : ℕ) : Type 0 where
   pub before : (z : ℕ × ℕ) × Contains list z × (pair_value z ≤ low)
   pub after : (z : ℕ × ℕ) × Contains list z × (high ≤ pair_value z)
   pub alike : (bit l h c : ℕ) → IsCutPoint bit l h c → l ≤ low → high ≤ h → IsAlike bit list c
 
 -- Each pair is represented by a number (`pair_value`). Let `low` be the number for the first pair of a list that is not
--- empty, and let `high` be the number for its last pair. Then the numbers for all pairs of the list are in the range
--- from `low` to `high`. Among all numbers that are greater than `low` and at most `high`, let c be the number that is
--- divisible by the highest power of two (`IsCutPoint`). Then c is the number that divides the list into two halves
--- (`IsCut`).
+-- empty, and let `high` be the number for its last pair. Then the number for each pair of the list is at least `low`
+-- and at most `high`. Among all numbers that are greater than `low` and at most `high`, let c be the number that is
+-- divisible by the highest power of two (`IsCutPoint`). Then c is the number at which the list is divided into two
+-- halves (`IsCut`).
 module _ (list : List (ℕ × ℕ)) (rise : IsStrictlySortedBy pair_cmp list) (fit : Fit list) (some : 0 < length list)
     {low high : ℕ} (low_is : low ≡ pair_value (get_or list 0 (0, 0)))
     (high_is : high ≡ pair_value (get_or list (length list - 1) (0, 0))) where
@@ -64,18 +65,19 @@ module _ (list : List (ℕ × ℕ)) (rise : IsStrictlySortedBy pair_cmp list) (f
         let between = keys_between z d in (omega arith, omega arith));
   }
 
--- Each pair is represented by a number (`pair_value`). Suppose that `HasEnds` holds for a list and the numbers `low`
--- and `high`. Consider all numbers that are greater than `low` and at most `high`, and let c be the number among them
--- that is divisible by the highest power of two (`IsCutPoint`). Then c is the split point of the list, which is the
--- number that divides the list into two halves (`IsCut`).
+-- Each pair is represented by a number (`pair_value`). The condition `HasEnds` relates a list of pairs to two numbers.
+-- Suppose that `HasEnds` holds for a list and the numbers `low` and `high`. Among all numbers that are greater than
+-- `low` and at most `high`, let c be the number that is divisible by the highest power of two (`IsCutPoint`). Then c is
+-- the split point of the list, which is the number at which the list is divided into two halves (`IsCut`).
 pub IsCut-ends : {list : List (ℕ × ℕ)} {low high bit c : ℕ} → HasEnds list low high → IsCutPoint bit low high c →
     IsCut list c
 IsCut-ends {list} {low} {high} {bit} {c} ends place =
     search (rules, ends.alike bit low high c place, ends.before, ends.after, place.after, place.within)
 
--- Suppose that `HasEnds` holds for the list xs with the numbers `low` and `high`, and for the list ys with the numbers
--- `low'` and `high'`. Let m be the lesser of `low` and `low'`, and let n be the greater of `high` and `high'`. Then
--- `HasEnds` holds for the union of xs and ys with the numbers m and n.
+-- The condition `HasEnds` relates a list of pairs to two numbers. Suppose that `HasEnds` holds for the list xs with the
+-- numbers `low` and `high`, and for the list ys with the numbers `low'` and `high'`. Let m be the lesser of `low` and
+-- `low'`, and let n be the greater of `high` and `high'`. Then `HasEnds` holds for the union of xs and ys with the
+-- numbers m and n.
 pub HasEnds-union : {list xs ys : List (ℕ × ℕ)} {low high low' high' : ℕ} → HasEnds xs low high
     → HasEnds ys low' high' → Unites list xs ys → HasEnds list (min low low') (max high high')
 HasEnds-union {list} {xs} {ys} {low} {high} {low'} {high'} first second unites = record {
@@ -91,16 +93,17 @@ HasEnds-union {list} {xs} {ys} {low} {high} {low'} {high'} first second unites =
       };
 }
 
--- Suppose that a list is too long to be stored whole (it has more than `MOST_WHOLE` pairs). Suppose also that its split
--- point, which is the number that determines the two halves of the list, divides the list into two lists that are
--- interned. Then these two interned lists are the halves of the list (`AreHalvesIn`).
+-- Suppose that a list has more than 64 pairs (`MOST_WHOLE`). Suppose also that the split point of the list, which is
+-- the number at which the list is divided into two halves, divides the list into two interned lists. Then these two
+-- interned lists are the halves of the list (`AreHalvesIn`).
 pub AreHalvesIn-parts : {lists : List (List (ℕ × ℕ))} {h : Halves} {list : List (ℕ × ℕ)} → h.below < length lists
     → h.above < length lists → IsParted list h.cut (list_at lists h.below) (list_at lists h.above) → IsCut list h.cut
     → MOST_WHOLE < length list → AreHalvesIn lists h
 AreHalvesIn-parts {lists} {h} low high parted cut long = search (rules, length-append)
 
--- Suppose that g has the IDs of the two halves of a list, and the number that divides the list into these halves.
--- Suppose that h has the same data for an equal list, and that no two stored lists are equal. Then g and h are equal.
+-- Suppose that g has the IDs of the two halves of a list, and the number at which the list is divided into these
+-- halves. Suppose that h has the IDs and the number for an equal list, and that no two stored lists are equal. Then g
+-- and h are equal.
 module _ (lists : List (List (ℕ × ℕ))) (stored : AreStored lists) (different : AreDifferent lists) where
   pub halves_same : (g h : Halves) → AreHalvesIn lists g → AreHalvesIn lists h
       → list_at lists g.below ++ list_at lists g.above ≡ list_at lists h.below ++ list_at lists h.above → g ≡ h

@@ -1,5 +1,5 @@
--- The tag of a list is a hash of 32 bits. To look up a list, the code searches the stored lists that have the same tag
--- as this list.
+-- The tag of a list is a hash of 32 bits. To look up a list, the code compares the list with each stored list that has
+-- the same tag.
 use Rattle.std.proofs.Common.{◌≡◌, ◌∙◌, ℕ, ◌<◌, List, [], map, length, ap, arith}
 use Rattle.std.proofs.Math.ListN as plain
 use Rattle.std.proofs.lemmas.List.{length-map}
@@ -7,21 +7,22 @@ use Rattle.buckets.specs.Buckets.{tag_at, IsLast}
 use Rattle.signatures.specs.Lists.{list_at}
 use Rattle.signatures.specs.Hashed.{tag_of}
 
--- The entry of `tags` at the index k is the tag (a hash of 32 bits) of the list with the ID k.
+-- The element of `tags` at the index k is the tag (a hash of 32 bits) of the list with the ID k.
 pub tag_is : (lists : List (List (ℕ × ℕ))) {tags : List ℕ} → tags ≡ map tag_of lists → (k : ℕ) →
     tag_at tags k ≡ tag_of (list_at lists k)
 tag_is lists e k = ap (λ tags. tag_at tags k) e ∙ plain.get_or-map tag_of lists k []
 
--- `IsReached` holds if the search for `list` has come to the ID r. This means that no list with an ID greater than r is
--- equal to `list`. Moreover, if r is not 0, the list with the ID r must have the same tag (a hash of 32 bits) as
--- `list`.
+-- A search for `list` goes through the stored lists that have the same tag (a hash of 32 bits) as `list`, in descending
+-- order of their IDs. `IsReached` holds for the ID r under two conditions. First, no stored list with an ID greater
+-- than r is equal to `list`. Second, r is 0, or the list with the ID r has the same tag as `list`.
 pub record IsReached (lists : List (List (ℕ × ℕ))) (list : List (ℕ × ℕ)) (r : ℕ) : Type 0 where
   pub below : 0 < length lists → r < length lists
   pub above : (q : ℕ) → r < q → q < length lists → list_at lists q ≡ list → ⊥
   pub tagged : 0 < r → tag_of (list_at lists r) ≡ tag_of list
 
--- A search for a list begins at the greatest ID with the tag (a hash of 32 bits) of this list, and goes on to smaller
--- IDs with this tag. These lemmas show that `IsReached` holds for each ID to which the search comes.
+-- A search for a list begins at the greatest ID of a list with the same tag (a hash of 32 bits), and goes on to the
+-- smaller IDs of lists with this tag. If the search has come to the ID r, no stored list with a greater ID is equal to
+-- the list (`IsReached`).
 module _ (lists : List (List (ℕ × ℕ))) {tags : List ℕ} (list : List (ℕ × ℕ)) (are : tags ≡ map tag_of lists) where
   pub IsReached-last : {r : ℕ} → IsLast tags (tag_of list) (length tags) r → IsReached lists list r
   IsReached-last {r} last = grind (arith, tag_is lists are, ap length are, length-map lists tag_of)

@@ -1,6 +1,6 @@
 -- A list is stored as a base, which is a list of pairs that several lists can share, and as extra pairs, which the base
--- lacks. The table of lists has the extra pairs of all lists in one buffer. If pairs are appended to the buffer, or if
--- a list is appended to the table, then all lists that were stored before stay the same.
+-- lacks. The extra pairs of all lists are stored in one buffer. If pairs are appended to this buffer, or if a list is
+-- appended to the stored lists, all lists that were stored before stay the same.
 use Rattle.std.proofs.Common.{rules, ◌≡◌, ℕ, ◌+◌, ◌≤◌, List, [], ◌∷◌, ◌++◌, length, refl, arith, All, ◌-◌, drop, map}
 use Rattle.std.proofs.Common.{slice_range, length-drop, length-take, drop_at, take_all}
 use Rattle.std.proofs.lemmas.List.{map-append, drop-append-le, take-append-le}
@@ -8,8 +8,8 @@ use Rattle.std.proofs.lemmas.List.Elements.{All-tail}
 use Rattle.signatures.specs.declared.extensions.Slot.{Slot}
 use Rattle.signatures.specs.Extensions.{extension_in, all_extensions, AreSlots}
 
--- If pairs are appended to a buffer, each range of the old buffer still has the same pairs, and the range after the old
--- buffer has the appended pairs.
+-- If pairs are appended to a buffer, each range of indices that lies within the old buffer still has the same pairs.
+-- The range after the old buffer has the appended pairs.
 pub slice_range-append : (pairs more : List (ℕ × ℕ)) (start end : ℕ) → start ≤ end → end ≤ length pairs →
     slice_range (pairs ++ more) start end ≡ slice_range pairs start end
 slice_range-append pairs more start end h k = search (rules, drop-append-le, take-append-le, length-drop)
@@ -18,7 +18,8 @@ pub slice_range-last : (pairs more : List (ℕ × ℕ)) (end : ℕ) → end ≡ 
     slice_range (pairs ++ more) (length pairs) end ≡ more
 slice_range-last pairs more end e = search (rules, drop_at, take_all)
 
--- If two functions have the same value at each element of a list, they map the list to the same list.
+-- If two functions have the same value at each element of a list, mapping the list with one function gives the same
+-- result as mapping it with the other function.
 pub map_same : {X Y : Type 0} (f g : X → Y) (xs : List X) → All (λ x. f x ≡ g x) xs → map f xs ≡ map g xs
 map_same f g [] h = refl
 map_same f g (x ∷ xs) h = rw (h 0 x (omega arith), map_same f g xs (All-tail (λ x. f x ≡ g x) x xs h))

@@ -1,8 +1,8 @@
 -- Each pair is represented by a number (`pair_value`), and the order of the pairs is the order of these numbers.
 -- Suppose that a list in ascending order is divided into the pairs that are less than a number and the other pairs.
--- Then both parts are in ascending order. Conversely, suppose that two lists are in ascending order, that all pairs of
--- the first list are less than c, and that all pairs of the second list are at least c. Then the first list followed by
--- the second list is in ascending order.
+-- Then both parts are in ascending order. Conversely, suppose that two lists are in ascending order. Suppose also that
+-- all pairs of the first list are less than c, and that all pairs of the second list are at least c. Then the first
+-- list followed by the second list is in ascending order.
 use Rattle.std.proofs.Common.{rules, ◌≡◌, ◌↔◌, ◌⊎◌, ℕ, ◌+◌, ◌^◌, ◌<◌, ◌≤◌, List, [], ◌∷◌, ◌++◌, length, get_or, take}
 use Rattle.std.proofs.Common.{drop, true, false, ltb, Contains, Less, inl, inr, arith}
 use Rattle.std.specs.List.Sorted.{IsStrictlySortedBy, IsNonDecreasingBy, IsPartitionPoint}
@@ -51,8 +51,9 @@ rising_keys list rise fit i j d low high =
     (fit _ (Contains-get_or list j d high)) in
     grind (arith, cases_eq i j, Less-from_sorted pair_cmp list i j d rise, key, low, high)
 
--- Each pair is represented by a number (`pair_value`). Let i be the index of the first pair of the list that is at
--- least c. Then the number c divides the list into its first i pairs and its remaining pairs (`IsParted`).
+-- Each pair is represented by a number (`pair_value`). Suppose that the first i pairs of a list are less than c, and
+-- that all other pairs of the list are at least c. Then the number c divides the list into its first i pairs and its
+-- remaining pairs (`IsParted`).
 pub parted_is : (list : List (ℕ × ℕ)) (c i : ℕ) → i ≤ length list
     → IsPartitionPoint (λ z. ltb (pair_value z) c ≡ true) (λ z. ltb (pair_value z) c ≡ false) list i
     → IsParted list c (take i list) (drop i list)
@@ -69,9 +70,9 @@ rising_both xs ys rise = (
       (Less-from_sorted pair_cmp (xs ++ ys) _ _ (0, 0) rise (omega arith) (omega (arith, length-append xs ys)))),
 )
 
--- Let a number divide a list of pairs into two parts: the pairs that are less than this number, and the other pairs. If
--- the list is in strictly ascending order, both parts are in strictly ascending order. If the second component of each
--- pair of the list is less than 2^32 (`Fit`), this is also true for each pair of both parts.
+-- Suppose that a number divides a list of pairs into two parts: the pairs that are less than this number, and the other
+-- pairs. If the list is in strictly ascending order, both parts are in strictly ascending order. If the second
+-- component of each pair of the list is less than 2^32 (`Fit`), this is also true of each pair of both parts.
 module _ {list below above : List (ℕ × ℕ)} {c : ℕ} (parted : IsParted list c below above) where
   pub parts_has : (z : ℕ × ℕ) → Contains list z ↔ (Contains below z ⊎ Contains above z)
   parts_has z = rw parted.joined (halves_has below above z)
@@ -88,7 +89,8 @@ module _ {list below above : List (ℕ × ℕ)} {c : ℕ} (parted : IsParted lis
   pub above_has : (z : ℕ × ℕ) → Contains above z ↔ (Contains list z × (c ≤ pair_value z))
   above_has z = grind (arith, parts_has z, parted.under z, parted.over z)
 
-  -- If a list is divided into two halves at its split point (`IsCut`), each of the two halves is shorter than the list.
+  -- Suppose that a list is divided into two halves at its split point (`IsCut`). Then each of the two halves has fewer
+  -- pairs than the list.
   pub parts_shorter : IsCut list c → (length below < length list) × (length above < length list)
   parts_shorter cut =
       let low = below_has cut.below.0 in

@@ -1,5 +1,5 @@
--- These lemmas are about lists that are stored as a base, which is a list of pairs that several lists can share and is
--- stored in the trie, and as extra pairs, which the base lacks. Some lemmas show when two such lists are equal. Other
+-- A list is stored as a base, which is a list of pairs that several lists can share, and as extra pairs, which the base
+-- lacks. The bases are stored in the trie. Some lemmas show when two lists that are stored in this way are equal. Other
 -- lemmas show that the stored lists stay the same if lists are added to the trie, or if a list is appended to the table
 -- of lists.
 use Rattle.std.proofs.Common.{rules, ◌≡◌, ◌∙◌, ◌⊎◌, ◌↔◌, ℕ, ◌<◌, ◌≤◌, List, [], ◌∷◌, ◌++◌, length, slice_index}
@@ -25,8 +25,9 @@ use Rattle.signatures.proofs.Extending.{unites_is_merged}
 use Rattle.signatures.proofs.Rising.{rising_unique}
 
 -- A list is stored as a base, which is a list of pairs that several lists can share, and as extra pairs, which the base
--- lacks. Suppose that bases are added to the trie, which stores all bases. Then each list has the same pairs as before,
--- and its base and its extra pairs are still valid (`IsExtension`).
+-- lacks. The bases are stored in the trie. Suppose that lists are added to the trie. Then each list that is stored in
+-- this way has the same pairs as before. Its base is still in the trie, and its base still lacks its extra pairs
+-- (`IsExtension`).
 module _ {old new : List (List (ℕ × ℕ))} (grow : Grow old new) where
   pub extended-grow : (x : ℕ × List (ℕ × ℕ)) → IsExtension old x → extended new x ≡ extended old x
   extended-grow x is = ap (λ l. merged l x.1) (grow.same x.0 is.base)
@@ -49,17 +50,19 @@ module _ {old new : List (List (ℕ × ℕ))} (grow : Grow old new) where
       Grow (extended_lists old extensions) (extended_lists new extensions)
   Grow-lists extensions each = rw (lists-grow extensions each) (Grow-same _)
 
-  -- The table stores lists, and the trie stores the parts that several of these lists can share. Suppose that every
-  -- list of the old table is also in the new table, with the same ID. Suppose also that lists are added to the trie,
-  -- and that the new table is valid with the old trie (`AreExtended`). Then the new table is valid with the new trie,
-  -- and each list of the old table has the same pairs as before (`TableGrows`).
+  -- The table stores lists, and the trie stores the parts that several of these lists can share. The condition
+  -- `AreExtended` states that the table and the trie fit together. Suppose that lists are added to the trie. Suppose
+  -- also that every list of the old table is in the new table, with the same ID, and that the new table satisfies
+  -- `AreExtended` with the old trie. Then the new table satisfies `AreExtended` with the new trie, and each list of the
+  -- old table has the same pairs as before (`TableGrows`).
   pub TableGrows-from : (before after : Table) {extensions : List (ℕ × List (ℕ × ℕ))} {tags : List ℕ}
       → after.extensions ≡ extensions → after.buckets.tags ≡ tags → AreExtended old extensions tags
       → Grow (extended_lists old before.extensions) (extended_lists old extensions) → TableGrows old new before after
   TableGrows-from before after same same' are lists = search (rules, same, same', AreExtended-grow, grow, lists-grow)
 
--- A list is the merge of its base, which is a list of pairs that several lists can share, and of its extra pairs, which
--- the base lacks. Two lists with the same base are equal if and only if their extra pairs are equal.
+-- A list is stored as a base, which is a list of pairs that several lists can share, and as extra pairs, which the base
+-- lacks. Suppose that two lists have the same base. Then the two lists are equal if and only if their extra pairs are
+-- equal.
 pub same_base : (trie : List (List (ℕ × ℕ))) (x y : ℕ × List (ℕ × ℕ)) → IsExtension trie x
     → IsExtension trie y → x.0 ≡ y.0 → (x.1 ≡ y.1) ↔ (extended trie x ≡ extended trie y)
 same_base trie x y is is' e = (
@@ -71,8 +74,8 @@ same_base trie x y is is' e = (
 )
 
 -- A list is stored as a base, which is a list of pairs that several lists can share, and as extra pairs, which the base
--- lacks. Let x be a list in this form. If a list that is stored in the trie has exactly the pairs of the base of x and
--- the extra pairs of x, then this stored list is equal to the list x.
+-- lacks. Let x be a list in this form. Suppose that a list of the trie has exactly the pairs of the base of x and the
+-- extra pairs of x. Then this list of the trie is equal to the list x.
 pub whole_is : (trie new : List (List (ℕ × ℕ))) (x : ℕ × List (ℕ × ℕ)) (i : ℕ) → AreStored trie → AreStored new
     → IsExtension trie x → i < length new
     → Unites (list_at new i) x.1 (list_at trie x.0) → list_at new i ≡ extended trie x
@@ -89,8 +92,9 @@ first_is : (trie : List (List (ℕ × ℕ))) (extensions : List (ℕ × List (�
     → list_at trie 0 ≡ [] → list_at (extended_lists trie extensions) 0 ≡ []
 first_is trie extensions are none = search (rules, get_or-map, are.first, merged_nil, none)
 
--- Suppose that a list is not empty and is not in the table yet, and that it is appended to the table together with its
--- tag, which is a hash of 32 bits. Then the table is still valid (`AreExtended`).
+-- Suppose that a list is not empty and is not in the table yet. If this list is appended to the table, and its tag (a
+-- hash of 32 bits) is appended to the tags, all lists of the table are stored correctly (`AreExtended`). In particular,
+-- no two of these lists are equal.
 module _ (trie : List (List (ℕ × ℕ))) (extensions : List (ℕ × List (ℕ × ℕ))) (tags : List ℕ) (x : ℕ × List (ℕ × ℕ))
     (tag : ℕ)
     (are : AreExtended trie extensions tags) where
@@ -110,9 +114,9 @@ module _ (trie : List (List (ℕ × ℕ))) (extensions : List (ℕ × List (ℕ 
         tagged = simp (are.tagged, tagged, map-append);
       }
 
--- Suppose that the table of lists is valid (`AreExtended`), and that the lists of the trie, which other lists can
--- share, are valid (`AreStored`). Then no two lists of the table are equal, and each list of the table is in strictly
--- ascending order (`AreLists`).
+-- The table stores lists, and the trie stores the parts that several of these lists can share. Suppose that the table
+-- and the trie fit together (`AreExtended`), and that the lists of the trie are stored correctly (`AreStored`). Then no
+-- two lists of the table are equal, and each list of the table is in strictly ascending order (`AreLists`).
 pub AreLists-extended : {trie : List (List (ℕ × ℕ))} {extensions : List (ℕ × List (ℕ × ℕ))} {tags : List ℕ}
     → AreStored trie
     → AreExtended trie extensions tags → length tags ≤ MOST_LISTS → AreLists (extended_lists trie extensions)
@@ -123,8 +127,8 @@ AreLists-extended {trie} {extensions} {tags} stored are few =
     search (rules, length-map, tags_size, first_is, stored, are)
 
 -- A list is stored as a base, which is a list of pairs that several lists can share, and as extra pairs, which the base
--- lacks. If the base has an ID other than 0 (it is not the empty list), or if there are extra pairs, then the list is
--- not empty.
+-- lacks. The base with the ID 0 is the empty list. If the base of a list has another ID, or if there are extra pairs,
+-- then the list is not empty.
 pub extended_some : (trie : List (List (ℕ × ℕ))) (x : ℕ × List (ℕ × ℕ)) → AreStored trie → AreDifferent trie
     → IsExtension trie x → (x.0 ≡ 0 → x.1 ≡ [] → ⊥) → extended trie x ≡ [] → ⊥
 extended_some trie x stored different is some e =
@@ -132,8 +136,7 @@ extended_some trie x stored different is some e =
     search (rules, longer, nil_from_length, different, is.base, stored.some, stored.first)
 
 -- In the model of `Interner`, a list is stored as a base, which is a list of pairs that several lists can share, and as
--- extra pairs, which the base lacks. A pair is in the list if and only if it is in the base or is one of the extra
--- pairs.
+-- extra pairs, which the base lacks. A pair is in the list if and only if the pair is in the base or is an extra pair.
 pub has_either : (trie : List (List (ℕ × ℕ))) (extensions : List (ℕ × List (ℕ × ℕ))) {lists : List (List (ℕ × ℕ))}
     → extended_lists trie extensions ≡ lists → (k : ℕ) → k < length lists → (x : ℕ × List (ℕ × ℕ))
     → x ≡ extension_at extensions k → (z : ℕ × ℕ)
@@ -142,8 +145,8 @@ has_either trie extensions view k low x e z =
     let is : list_at (extended_lists trie extensions) k ≡ extended trie x = search (rules, get_or-map, length-map) in
     rw (← view, is) (merged_has z (list_at trie x.0) x.1)
 
--- If one of several lists has all pairs of the other lists and all pairs in `pairs`, then this list is the union of all
--- these lists and of `pairs`.
+-- Suppose that one of several lists has all pairs of the other lists and all pairs in `pairs`. Then this list is the
+-- union of all these lists and of `pairs`.
 pub includes_all : (lists : List (List (ℕ × ℕ))) (ids : List ℕ) (pairs : List (ℕ × ℕ)) (i : ℕ) → i < length ids
     → All (λ j. Includes (list_at lists (slice_index ids i)) (list_at lists j)) ids
     → All (Contains (list_at lists (slice_index ids i))) pairs

@@ -1,7 +1,7 @@
 -- The function `cut` finds the highest bit in which the numbers `low` and `high` differ, and clears all lower bits of
--- `high`. The result is the split point of the range from `low` to `high`, which is the number at which a list with
--- this range is divided into two halves (`IsCutPoint`). For this division, each pair of the list is represented by a
--- number.
+-- `high`. Among all numbers that are greater than `low` and at most `high`, the result is the number that is divisible
+-- by the highest power of two (`IsCutPoint`). A list of pairs is divided into two halves at this number, if `low`
+-- represents the first pair of the list and `high` represents the last pair.
 use Rattle.std.proofs.Common.{rules, ◌≡◌, ◌≢◌, ℕ, suc, ◌+◌, ◌-◌, ◌*◌, ◌/◌, ◌%◌, ◌^◌, ◌<◌, ◌≤◌, bit_xor}
 use Rattle.std.proofs.Common.{arith, add-one, div-mul-le_self}
 use Rattle.std.proofs.lemmas.Grind.{common_steps}

@@ -1,5 +1,6 @@
--- A node stores a list: a short list as a range of pairs, and a long list as the IDs of its two halves. Some lemmas say
--- which list a node stores. Other lemmas show that the nodes stay valid if a list is appended.
+-- A node stores one list: a short list as a range of pairs, and a long list as the IDs of the two halves of the list.
+-- Some lemmas state which list is stored in a node. Other lemmas show that all lists are still stored correctly
+-- (`AreNodes`) after a list has been appended.
 use Rattle.std.proofs.Common.{rules, ◌≡◌, ◌∙◌, ℕ, zero, suc, ◌+◌, ◌<◌, ◌≤◌, List, [], ◌∷◌, ◌++◌, length, take, ap, sym}
 use Rattle.std.proofs.Common.{subst, refl, arith, All, slice_range, length-append, append-nil}
 use Rattle.std.specs.List.Sorted.{IsStrictlySortedBy}
@@ -36,9 +37,12 @@ pub IsHalved-grow : (lists new : List (List (ℕ × ℕ))) (k : ℕ) (h : Halves
     IsHalved lists k h → IsHalved new k h
 IsHalved-grow lists new k h grow low = search rules
 
--- Suppose that a list in strictly ascending order is appended to the stored lists. If this list is too long to be
--- stored whole (it has more than `MOST_WHOLE` pairs), suppose also that its two halves are already stored. Then the
--- stored lists, including the appended list, are still valid (`AreStored`).
+-- `AreStored` states conditions for the stored lists, for example that each of them is in strictly ascending order.
+-- Suppose that the stored lists satisfy these conditions, and that a list in strictly ascending order is appended to
+-- them. If this list has more than 64 pairs (`MOST_WHOLE`), suppose also that its two halves are already stored. Then
+-- the stored lists, including the appended list, satisfy the conditions of `AreStored`. The lemma also requires that
+-- there are fewer than 2^32 - 1 lists (`MOST_LISTS`) before the list is appended, and that the second component of each
+-- pair is less than 2^32 (`Fit`).
 pub AreStored-push : (lists : List (List (ℕ × ℕ))) (list : List (ℕ × ℕ)) → AreStored lists → length lists < MOST_LISTS
     → IsStrictlySortedBy pair_cmp list → Fit list
     → (MOST_WHOLE < length list → (h : Halves) × IsHalved (lists ++ list ∷ []) (length lists) h)
@@ -65,8 +69,8 @@ module _ (pairs : List (ℕ × ℕ)) (nodes : List Node) where
   pub length-lists : length (lists_of_nodes pairs nodes) ≡ length nodes
   length-lists = length-to (length nodes)
 
-  -- Each node stores one list, as a range of pairs or as the IDs of two halves. The list with the ID k is computed from
-  -- its node and from the lists with smaller IDs.
+  -- Each node stores one list, as a range of pairs or as the IDs of two other lists, which are the halves of the list.
+  -- The list with the ID k is computed from its node and from the lists with smaller IDs.
   to_at : (n k : ℕ) → k < n → list_at (lists_to pairs nodes n) k ≡ list_of_node pairs (lists_to pairs nodes k)
       (node_at nodes k)
   unfolding lists_to
@@ -77,16 +81,16 @@ module _ (pairs : List (ℕ × ℕ)) (nodes : List Node) where
       → list_at (lists_of_nodes pairs nodes) k ≡ slice_range pairs start (start + count)
   list_whole k start count low e = to_at (length nodes) k low ∙ ap (list_of_node pairs (lists_to pairs nodes k)) e
 
--- Each list is stored in a node, as a range of pairs or as the IDs of its two halves. If the list is too long to be
--- stored whole (it has more than `MOST_WHOLE` pairs), then its node has the IDs of the two halves.
+-- Each list is stored in a node, as a range of pairs or as the IDs of its two halves. Suppose that a list has more than
+-- 64 pairs (`MOST_WHOLE`). Then the node of this list has the IDs of the two halves.
 kept_long : (pairs : List (ℕ × ℕ)) (lists new : List (List (ℕ × ℕ))) (k : ℕ) (node : Node) → StoresNode pairs new k node
     → MOST_WHOLE < length (list_of_node pairs lists node) → (h : Halves) × IsHalved new k h
 kept_long pairs lists new k (Whole start count) is long = search (rules, length-part)
 kept_long pairs lists new k (Halved h) is long = (h, is)
 
--- A node stores a list, as a range of a buffer of pairs or as the IDs of the two halves of the list. Suppose that a
--- node is appended, and that the buffer may get more pairs. Then the list of the new node is the last stored list, and
--- all other stored lists stay the same.
+-- A node stores one list, as a range of a buffer of pairs or as the IDs of the two halves of the list. Suppose that a
+-- node is appended to the nodes, and that pairs may be appended to the buffer. Then the list of the new node is the
+-- last stored list, and all other stored lists stay the same.
 module _ (pairs more : List (ℕ × ℕ)) (nodes : List Node) (new : Node) (are : AreNodes pairs nodes) where
   same_list : (lists each_node : List (List (ℕ × ℕ))) (k : ℕ) (node : Node) → StoresNode pairs each_node k node →
       list_of_node (pairs ++ more) lists node ≡ list_of_node pairs lists node
@@ -110,8 +114,10 @@ module _ (pairs more : List (ℕ × ℕ)) (nodes : List Node) (new : Node) (are 
       let longer : length (nodes ++ new ∷ []) ≡ suc (length nodes) = omega (arith, length_push nodes new) in
       rw (longer, to_agree (length nodes) (omega arith), get_or_push nodes new (Whole 0 0) _ refl)
 
-  -- Suppose that the appended node, which stores one list, is valid (`StoresNode`), and that this list is in strictly
-  -- ascending order. Then all nodes are still valid (`AreNodes`).
+  -- Suppose that the appended node stores its list correctly (`StoresNode`), and that this list is in strictly
+  -- ascending order. Then all nodes, including the appended node, store their lists correctly (`AreNodes`). The lemma
+  -- also requires that there are fewer than 2^32 - 1 nodes (`MOST_LISTS`) before the node is appended, and that the
+  -- second component of each pair of the list is less than 2^32 (`Fit`).
   pub AreNodes-push : length nodes < MOST_LISTS → IsStrictlySortedBy pair_cmp list → Fit list
       → StoresNode (pairs ++ more) (lists_of_nodes pairs nodes ++ list ∷ []) (length nodes) new
       → AreNodes (pairs ++ more) (nodes ++ new ∷ [])
@@ -152,15 +158,15 @@ nodes-cleared pairs [] are = absurd (let some = are.stored.some in omega (arith,
 nodes-cleared pairs (x ∷ xs) are = ap (λ n. n ∷ []) are.empty
 
 -- A `Shape` describes a list in one of two ways: it has the pairs of the list, or the IDs of the two halves of the
--- list. `IsNext` holds if the list that the shape describes is stored by appending `node` to the nodes, each of which
--- stores one list, and by extending the buffer from `pairs` to `new`.
+-- list. Each node stores one list. `IsNext` holds if the list that the shape describes is stored in the following way:
+-- the node `node` is appended to the nodes, and the buffer of pairs is extended from `pairs` to `new`.
 abbrev pub IsNext : List (ℕ × ℕ) → List (ℕ × ℕ) → Shape → Node → Type 0
 IsNext pairs new (Pairs list) node = (new ≡ pairs ++ list.now) × (node ≡ Whole (length pairs) (length list.now))
 IsNext pairs new (Cut h) node = (new ≡ pairs) × (node ≡ Halved h)
 
--- A shape describes a list, by the pairs of the list or by the IDs of its two halves. Suppose that this list is stored
--- by appending a node (`IsNext`). Then the node stores the last of the stored lists, all other stored lists stay the
--- same, and the nodes are still valid (`AreNodes`).
+-- A `Shape` describes a list by the pairs of the list, or by the IDs of its two halves. Suppose that this list is
+-- stored by appending a node (`IsNext`). Then the list of this node is the last of the stored lists, all other stored
+-- lists stay the same, and all lists are stored correctly (`AreNodes`).
 module _ (pairs new : List (ℕ × ℕ)) (nodes : List Node) (node : Node) (are : AreNodes pairs nodes) where
   abbrev lists : List (List (ℕ × ℕ))
   lists = lists_of_nodes pairs nodes

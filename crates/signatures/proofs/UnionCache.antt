@@ -1,5 +1,5 @@
--- The union cache stores the IDs of unions that were computed before. One lemma shows that the entry in each empty slot
--- is a correct union. Another lemma shows that all entries are still correct unions after a union has been stored.
+-- The union cache stores the IDs of unions that were computed before. The entry that fills each empty slot of the cache
+-- is a correct union. If a correct union is stored in the cache, all entries are still correct unions.
 use Rattle.std.proofs.Common.{rules, ◌≡◌, ◌⊎◌, ◌↔◌, ℕ, ◌<◌, List, length, map, set, replicate, min, max, Contains, refl}
 use Rattle.std.proofs.Common.{inl, inr, arith, Result, IfOk, All}
 use Rattle.std.proofs.lemmas.Bool.{cases_lt}
@@ -16,8 +16,8 @@ pub none_noted : (unions : List Union) (n : ℕ) → unions ≡ replicate n NO_U
 none_noted unions n e =
     rw e (All-map IsNone union_entry _ (All-replicate (λ u. IsNone (union_entry u)) n NO_UNION refl))
 
--- If one slot of the union cache is overwritten with a new entry, then each entry of the cache is the new entry, or was
--- in the cache before.
+-- Suppose that one slot of the union cache is overwritten with a new entry. Then each entry that is in the cache after
+-- this is the new entry, or was in the cache before.
 pub written : (unions : List Union) (p : ℕ) (u : Union) (z : (ℕ × ℕ) × ℕ)
     → Contains (map union_entry (set unions p u)) z → Contains (map union_entry unions) z ⊎ (z ≡ union_entry u)
 written unions p u z has = search (rules, map-set)
@@ -39,8 +39,9 @@ IsUnion-in_order lists j k i = elim (cases_lt j k) [
       rw (order.0, order.1) (IsUnion-swap, IsUnion-swap)
 ]
 
--- Suppose that each entry of the union cache is a correct union (`IsUnion`). If another correct union is stored in the
--- cache, and if old entries may be removed, then each entry is still a correct union.
+-- An entry of the union cache has the IDs of two lists and the ID of their union. Suppose that each entry of the cache
+-- is correct (`IsUnion`). If a correct entry is stored in the cache, each entry is still correct, even if old entries
+-- are removed.
 pub AreUnions-note : {lists : List (List (ℕ × ℕ))} (unions noted : List ((ℕ × ℕ) × ℕ)) (key : ℕ × ℕ) (i : ℕ)
     → AreUnions lists unions → IsUnion lists key i
     → ((z : (ℕ × ℕ) × ℕ) → Contains noted z → Contains unions z ⊎ IsNone z ⊎ (z ≡ (key, i))) → AreUnions lists noted

@@ -1,8 +1,8 @@
--- The split point of a list is the number that divides the list into two halves: the pairs that are less than this
--- number, and all other pairs. For this comparison, each pair is represented by a number (`pair_value`). To compute the
--- union of two lists, each of the two lists is divided at the split point of the union into a lower and an upper part.
--- The union of the two lower parts is the first half of the result, and the union of the two upper parts is the second
--- half.
+-- The split point of a list is the number at which the list is divided into two halves. To compare a pair with this
+-- number, the pair is represented by a number (`pair_value`). The first half has the pairs that are less than the split
+-- point, and the second half has all other pairs. To compute the union of two lists, each of the two lists is divided
+-- at the split point of the union into a lower and an upper part. The union of the two lower parts is the first half of
+-- the result, and the union of the two upper parts is the second half.
 use Rattle.std.proofs.Common.{◌≡◌, ◌⊎◌, ◌↔◌, ℕ, ◌+◌, ◌-◌, ◌<◌, min, max, List, [], ◌++◌, length, sym, subst, refl, inr}
 use Rattle.std.proofs.Common.{arith, rules, length-append, append-nil}
 use Rattle.std.specs.List.Sorted.{IsStrictlySortedBy}
@@ -18,18 +18,18 @@ use Rattle.signatures.proofs.Merging.{merged_has}
 use Rattle.signatures.proofs.Joining.{or_swap}
 use Rattle.signatures.proofs.Rising.{rising_fewer}
 
--- Each pair is represented by a number (`pair_value`). If the numbers of all pairs of a list are less than c, then c
--- divides the list into the list itself and the empty list. If the numbers of all pairs are at least c, then c divides
--- the list into the empty list and the list itself.
+-- Each pair is represented by a number (`pair_value`). If the numbers for all pairs of a list are less than c, then c
+-- divides the list into the whole list and the empty list. If the numbers for all pairs are at least c, then c divides
+-- the list into the empty list and the whole list.
 pub IsParted-under : {list : List (ℕ × ℕ)} {c : ℕ} → IsUnder list c → IsParted list c list []
 IsParted-under {list} under = record { joined = sym (append-nil list); under = under; over = search rules }
 
 pub IsParted-over : {list : List (ℕ × ℕ)} {c : ℕ} → IsOver list c → IsParted list c [] list
 IsParted-over over = record { joined = refl; under = search rules; over = over }
 
--- Suppose that a list is stored as two halves. Then it is too long to be stored whole (it has more than `MOST_WHOLE`
--- pairs). Its split point (`IsCut`) is the number that divides it into these halves: the pairs less than this number,
--- and the other pairs.
+-- Suppose that a list is stored as two halves. Then the list has more than 64 pairs (`MOST_WHOLE`). The number that is
+-- stored with the halves is the split point of the list (`IsCut`). One half has the pairs that are less than this
+-- number, and the other half has the other pairs.
 pub halved_long : {lists : List (List (ℕ × ℕ))} {k : ℕ} {h : Halves} → IsHalved lists k h →
     MOST_WHOLE < length (list_at lists k)
 halved_long {lists} {h} is = search (rules, is.halves.long, is.list, length-append, h.below, h.above)
@@ -41,10 +41,10 @@ pub halved_parted : {lists : List (List (ℕ × ℕ))} {k : ℕ} {h : Halves} �
     → IsParted (list_at lists k) h.cut (list_at lists h.below) (list_at lists h.above)
 halved_parted is = record { joined = is.list; under = is.halves.under; over = is.halves.over }
 
--- Suppose that the number c divides the list with the ID k into two parts that are also interned: the lower part has
--- the ID `below`, and the upper part has the ID `above`. Suppose also that `mid` and `new` have all interned lists with
--- the same IDs, and possibly more lists. Then the lower part is the list with the ID `below` in `mid`, and the upper
--- part is the list with the ID `above` in `new`.
+-- Suppose that the number c divides the list with the ID k into two interned lists: the lower part with the ID `below`,
+-- and the upper part with the ID `above`. Suppose also that all interned lists are in `mid` and in `new`, with the same
+-- IDs. Then the lower part is the list with the ID `below` in `mid`, and the upper part is the list with the ID `above`
+-- in `new`.
 pub parted_grown : {lists mid new : List (List (ℕ × ℕ))} {k c below above : ℕ} → Grow lists mid → Grow lists new
     → IsSplit lists k c below above → k < length lists
     → IsParted (list_at lists k) c (list_at mid below) (list_at new above)
@@ -64,9 +64,9 @@ either_mixed whole low high first second = search rules
 module _ {xs ys below above below' above' : List (ℕ × ℕ)} {c : ℕ} (first : IsParted xs c below above)
     (second : IsParted ys c below' above') where
   -- The number c divides each of the lists xs and ys into a lower part, which has the pairs less than c, and an upper
-  -- part, which has the other pairs. Let `lower` be the union of the two lower parts, and let `upper` be the union of
-  -- the two upper parts. Then `lower` followed by `upper` is the union of xs and ys. All pairs of `lower` are less than
-  -- c, and all pairs of `upper` are at least c.
+  -- part, which has the other pairs. Suppose that `lower` is the union of the two lower parts, and that `upper` is the
+  -- union of the two upper parts. Then `lower` followed by `upper` is the union of xs and ys. All pairs of `lower` are
+  -- less than c, and all pairs of `upper` are at least c.
   module _ (lower upper : List (ℕ × ℕ)) (low : Unites lower below below') (high : Unites upper above above') where
     pub united : Unites (lower ++ upper) xs ys
     united z = either_mixed (halves_has lower upper z) (low z) (high z) (parts_has first z) (parts_has second z)
@@ -80,10 +80,10 @@ module _ {xs ys below above below' above' : List (ℕ × ℕ)} {c : ℕ} (first 
     united_parted : IsParted (lower ++ upper) c lower upper
     united_parted = record { joined = refl; under = united_under; over = united_over }
 
-  -- Let c be the split point of the union of the lists xs and ys, which is the number that divides the union into two
-  -- halves. Then c divides each of xs and ys into a lower part, which has the pairs less than c, and an upper part,
-  -- which has the other pairs. The two lower parts together have fewer pairs than xs and ys together, and so have the
-  -- two upper parts.
+  -- Let c be the split point of the union of the lists xs and ys, which is the number at which the union is divided
+  -- into two halves. Then c divides each of xs and ys into a lower part, which has the pairs less than c, and an upper
+  -- part, which has the other pairs. The two lower parts together have fewer pairs than xs and ys together. The two
+  -- upper parts together also have fewer pairs than xs and ys together.
   pub parts_fewer : ((list : List (ℕ × ℕ)) → Unites list xs ys → IsCut list c)
       → (length below + length below' < length xs + length ys) × (length above + length above' < length xs + length ys)
   parts_fewer cuts =
@@ -92,11 +92,10 @@ module _ {xs ys below above below' above' : List (ℕ × ℕ)} {c : ℕ} (first 
       let shorter = parts_shorter (united_parted _ _ low high) (cuts _ (united _ _ low high)) in
       grind (arith, length-append, shorter, first.joined, second.joined)
 
-  -- Let c be the split point of the union of the lists xs and ys, which is the number that divides the union into two
-  -- halves. Then c divides each of xs and ys into a lower part, which has the pairs less than c, and an upper part,
-  -- which has the other pairs. Suppose that ys is too long to be stored whole (it has more than `MOST_WHOLE` pairs).
-  -- Then the first half of the union is the union of the two lower parts, and the second half is the union of the two
-  -- upper parts.
+  -- Let c be the split point of the union of the lists xs and ys, which is the number at which the union is divided
+  -- into two halves. Then c divides each of xs and ys into a lower part, which has the pairs less than c, and an upper
+  -- part, which has the other pairs. Suppose that ys has more than 64 pairs (`MOST_WHOLE`). Then the first half of the
+  -- union is the union of the two lower parts, and the second half of the union is the union of the two upper parts.
   pub AreUnited-parts : {mid new : List (List (ℕ × ℕ))} {b a : ℕ} → Grow mid new
       → b < length mid → Unites (list_at mid b) below below' → a < length new → Unites (list_at new a) above above'
       → IsStrictlySortedBy pair_cmp ys → MOST_WHOLE < length ys
@@ -119,14 +118,13 @@ ends_halves is =
       alike = λ bit l h c place under over. alike_wider _ bit l h c _ place cut (omega arith) (omega arith);
     }
 
--- The split point of a list is the number that divides the list into two halves. The split point of the range from l to
--- h is defined as follows (`IsCutPoint`): among all numbers that are greater than l and at most h, it is the number
--- that is divisible by the highest power of two. Suppose that the numbers `low` and `high` determine the split point of
--- the list xs, and that `low'` and `high'` determine the split point of the list ys (`HasEnds`). Let c be the split
--- point of the smallest range that includes these four numbers, and let 2^bit be the highest power of two that divides
--- c. Then c is the split point of the union of xs and ys: it divides the union into two halves. Moreover, the number
--- that represents any pair of xs or ys (`pair_value`) has the same bits as c at all bit positions above `bit`
--- (`IsAlike`).
+-- The split point of a list is the number at which the list is divided into two halves (`IsCut`). The condition
+-- `HasEnds` relates a list of pairs to two numbers. Suppose that `HasEnds` holds for the list xs with the numbers `low`
+-- and `high`, and for the list ys with the numbers `low'` and `high'`. Let l be the lesser of `low` and `low'`, and let
+-- h be the greater of `high` and `high'`. Among all numbers that are greater than l and at most h, let c be the number
+-- that is divisible by the highest power of two, 2^bit (`IsCutPoint`). Then c is the split point of the union of xs and
+-- ys. For each pair of xs or ys, the number that represents the pair (`pair_value`) has the same bits as c at all bit
+-- positions above `bit` (`IsAlike`).
 pub placed : {xs ys : List (ℕ × ℕ)} {low high low' high' bit l h c : ℕ} → IsCutPoint bit l h c → HasEnds xs low high
     → HasEnds ys low' high' → l ≡ min low low' → h ≡ max high high'
     → IsAlike bit xs c × IsAlike bit ys c × ((list : List (ℕ × ℕ)) → Unites list xs ys → IsCut list c)

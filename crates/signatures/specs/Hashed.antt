@@ -14,27 +14,28 @@ fingerprint_of list = sum_by hash_of list % 2 ^ 64
 abbrev pub mixed : ℕ → ℕ
 mixed number = number * TAG_FACTOR % 2 ^ 64 / 2 ^ 32
 
--- Returns the tag of a list, which is a hash of 32 bits. The tag is computed from the fingerprint of the list, which is
--- a hash of 64 bits.
+-- Returns the tag (a hash of 32 bits) of a list. The tag is computed from the fingerprint (a hash of 64 bits) of the
+-- list.
 abbrev pub tag_of : List (ℕ × ℕ) → ℕ
 tag_of list = mixed (fingerprint_of list)
 
--- `AreDifferent` holds if no two lists with different IDs are equal.
+-- `AreDifferent` holds if no two lists with different IDs are equal. The ID of a list is its index in `lists`.
 abbrev pub AreDifferent : List (List (ℕ × ℕ)) → Type 0
 AreDifferent lists = (j k : ℕ) → j < length lists → k < length lists → list_at lists j ≡ list_at lists k → j ≡ k
 
--- `IsHashed` holds if no two of the lists are equal, and if `sums` and `tags` have the right hashes. The entry of
--- `sums` at the index k must be the fingerprint (a hash of 64 bits) of the list with the ID k. The entry of `tags` at
--- the index k must be the tag (a hash of 32 bits) of this list.
+-- `IsHashed` holds under three conditions. First, no two of the lists are equal. Second, the element of `sums` at each
+-- index k is the fingerprint (a hash of 64 bits) of the list with the ID k. Third, the element of `tags` at each index
+-- k is the tag (a hash of 32 bits) of the list with the ID k.
 pub record IsHashed (lists : List (List (ℕ × ℕ))) (sums tags : List ℕ) : Type 0 where
   pub are_sums : sums ≡ map fingerprint_of lists
   pub are_tags : tags ≡ map tag_of lists
   pub different : AreDifferent lists
 
--- `IsNewList` holds if no list in `lists` with an ID other than 0 is equal to `list`.
+-- `IsNewList` holds if `list` differs from each list in `lists` whose ID is not 0. The ID of a list is its index in
+-- `lists`.
 abbrev pub IsNewList : List (List (ℕ × ℕ)) → List (ℕ × ℕ) → Type 0
 IsNewList lists list = (r : ℕ) → 0 < r → r < length lists → list_at lists r ≡ list → ⊥
 
--- `IsIdOf` holds if r is an ID other than 0, and if `list` is the list with the ID r in `lists`.
+-- `IsIdOf` holds if r is an ID other than 0, and if the list with the ID r in `lists` is equal to `list`.
 abbrev pub IsIdOf : List (List (ℕ × ℕ)) → List (ℕ × ℕ) → ℕ → Type 0
 IsIdOf lists list r = (0 < r) × (r < length lists) × (list_at lists r ≡ list)

@@ -20,8 +20,9 @@ list_at lists k = slice_index_or lists k []
 abbrev pub merged : List (ℕ × ℕ) → List (ℕ × ℕ) → List (ℕ × ℕ)
 merged = sorted_merge pair_cmp true
 
--- `AreLists` holds if no two of the lists are equal, if each list is in strictly ascending order, if there are at most
--- `MOST_LISTS` lists (so that each ID fits into 32 bits), and if the list with the ID 0 is empty.
+-- `AreLists` holds under four conditions. First, no two of the lists are equal. Second, each list is in strictly
+-- ascending order. Third, there are at most 2^32 - 1 lists (`MOST_LISTS`), so that each ID fits into 32 bits. Fourth,
+-- the list with the ID 0 is the empty list.
 pub record AreLists (lists : List (List (ℕ × ℕ))) : Type 0 where
   pub rise : All (IsStrictlySortedBy pair_cmp) lists
   pub some : 1 ≤ length lists
@@ -33,11 +34,12 @@ pub record AreLists (lists : List (List (ℕ × ℕ))) : Type 0 where
 abbrev pub AreIds : List (List (ℕ × ℕ)) → List ℕ → Type 0
 AreIds lists ids = All (λ k. k < length lists) ids
 
--- `Grow` holds if each list of `old` has the same ID in `new`. There may be more lists in `new` than in `old`.
+-- `Grow` compares the lists that are stored before a call (`old`) and after this call (`new`). It holds if each list of
+-- `old` is also in `new`, with the same ID. The call may have added lists.
 pub record Grow (old new : List (List (ℕ × ℕ))) : Type 0 where
   pub longer : length old ≤ length new
   pub same : (k : ℕ) → k < length old → list_at new k ≡ list_at old k
 
--- `HasOne` holds if the pair z is in at least one of the lists with the IDs `ids`.
+-- `HasOne` holds if the pair z is in at least one of the lists whose IDs are in `ids`.
 abbrev pub HasOne : List (List (ℕ × ℕ)) → List ℕ → ℕ × ℕ → Type 0
 HasOne lists ids z = (j : ℕ) × (j < length ids) × Contains (list_at lists (slice_index ids j)) z

@@ -1,7 +1,8 @@
 -- Defines how `Nodes` stores each list of pairs. A short list is stored as a range of one buffer. A long list is stored
--- as the IDs of its two halves, which are lists with smaller IDs. A number, which is called the split point of the
--- list, divides the long list into its halves. The first half has the pairs that are less than this number, and the
--- second half has the other pairs. For this comparison, each pair is represented by a number (`pair_value`).
+-- as the IDs of its two halves, which are lists with smaller IDs. A long list is divided into its halves at a number,
+-- which is called the split point of the list. To compare a pair with the split point, the pair is represented by a
+-- number (`pair_value`). The first half has the pairs that are less than the split point, and the second half has the
+-- other pairs.
 use Rattle.std.specs.Prelude.{◌≡◌, ℕ, zero, suc, ◌+◌, ◌<◌, ◌≤◌, List, [], ◌∷◌, ◌++◌, length}
 use Rattle.std.specs.List.{All, slice_range, slice_index_or}
 use Rattle.std.specs.List.Sorted.{IsStrictlySortedBy}
@@ -14,31 +15,32 @@ use Rattle.signatures.specs.declared.nodes.Node.TheVariants.{Whole, Halved}
 use Rattle.signatures.specs.declared.nodes.Shape.{Shape}
 use Rattle.signatures.specs.declared.nodes.Shape.TheVariants.{Whole as Pairs, Halved as Cut}
 
--- `AreHalves` holds if `below` and `above` are the two halves of a list that is too long to be stored whole (it has
--- more than `MOST_WHOLE` pairs), and if `cut` is its split point, which is the number that divides the list into these
--- halves. The half `below` has the pairs that are less than `cut`, and the half `above` has the other pairs. For this
--- comparison, each pair is represented by a number (`pair_value`).
+-- `AreHalves` holds if `below` and `above` are the two halves of a long list, which is divided at the number `cut`. To
+-- compare a pair with `cut`, the pair is represented by a number (`pair_value`). The definition has three conditions.
+-- First, the two halves have more than 64 pairs together (`MOST_WHOLE`). Second, `cut` is the split point of the list
+-- `below` followed by `above` (`IsCut`). Third, all pairs in `below` are less than `cut`, and all pairs in `above` are
+-- at least `cut`.
 pub record AreHalves (below above : List (ℕ × ℕ)) (cut : ℕ) : Type 0 where
   pub long : MOST_WHOLE < length below + length above
   pub at_cut : IsCut (below ++ above) cut
   pub under : IsUnder below cut
   pub over : IsOver above cut
 
--- `IsHalved` holds if h has the IDs of the two halves of the list with the ID k, and the number that divides the list
--- into these halves. Both IDs must be less than k.
+-- `IsHalved` holds if h has the IDs of the two halves of the list with the ID k, and the number at which the list is
+-- divided into these halves. The IDs of both halves must be less than k.
 pub record IsHalved (lists : List (List (ℕ × ℕ))) (k : ℕ) (h : Halves) : Type 0 where
   pub below : h.below < k
   pub above : h.above < k
   pub list : list_at lists k ≡ list_at lists h.below ++ list_at lists h.above
   pub halves : AreHalves (list_at lists h.below) (list_at lists h.above) h.cut
 
--- Returns the node (the stored form) of the list with the ID k: a range of the buffer of pairs, or the IDs of the two
--- halves of the list.
+-- Returns the node in which the list with the ID k is stored. A node has a range of the buffer of pairs, or the IDs of
+-- the two halves of its list.
 abbrev pub node_at : List Node → ℕ → Node
 node_at nodes k = slice_index_or nodes k (Whole 0 0)
 
--- Returns the list that a node stores as a range of the buffer `pairs`, or as the IDs of two halves. The halves are
--- looked up in `lists`.
+-- Returns the list that is stored in a node. The node has a range of the buffer `pairs`, or the IDs of the two halves
+-- of its list. The halves are looked up in `lists`.
 abbrev pub list_of_node : List (ℕ × ℕ) → List (List (ℕ × ℕ)) → Node → List (ℕ × ℕ)
 list_of_node pairs lists (Whole start count) = slice_range pairs start (start + count)
 list_of_node pairs lists (Halved h) = list_at lists h.below ++ list_at lists h.above
@@ -56,10 +58,10 @@ lists_to pairs nodes (suc n) = lists_to pairs nodes n ++ list_of_node pairs (lis
 abbrev pub lists_of_nodes : List (ℕ × ℕ) → List Node → List (List (ℕ × ℕ))
 lists_of_nodes pairs nodes = lists_to pairs nodes (length nodes)
 
--- `AreStored` holds if the stored lists satisfy the following conditions. Each list is in strictly ascending order. The
--- second component of each pair is less than 2^32 (`Fit`). Each list that is too long to be stored whole (it has more
--- than `MOST_WHOLE` pairs) has two halves, which are also among the lists. There are at most `MOST_LISTS` lists, so
--- that each ID fits into 32 bits. The list with the ID 0 is empty.
+-- `AreStored` holds for the stored lists under five conditions. First, each list is in strictly ascending order.
+-- Second, the second component of each pair is less than 2^32 (`Fit`). Third, for each list of more than 64 pairs
+-- (`MOST_WHOLE`), the two halves of the list are also stored (`IsHalved`). Fourth, there are at most 2^32 - 1 lists
+-- (`MOST_LISTS`), so that each ID fits into 32 bits. Fifth, the list with the ID 0 is empty.
 pub record AreStored (lists : List (List (ℕ × ℕ))) : Type 0 where
   pub rise : All (IsStrictlySortedBy pair_cmp) lists
   pub fit : All Fit lists
@@ -68,14 +70,16 @@ pub record AreStored (lists : List (List (ℕ × ℕ))) : Type 0 where
   pub few : length lists ≤ MOST_LISTS
   pub first : list_at lists 0 ≡ []
 
--- `StoresNode` holds if the node stores the list with the ID k in a valid way: a short list (at most `MOST_WHOLE`
--- pairs) as a range of the buffer `pairs`, or a long list as the IDs of its two halves.
+-- `StoresNode` holds if the node is a correct form in which the list with the ID k is stored. If the node has a range
+-- of pairs, the range must lie within the buffer `pairs`, and must have at most 64 pairs (`MOST_WHOLE`). If the node
+-- has the IDs of two halves, they must be the IDs of the two halves of the list with the ID k.
 abbrev pub StoresNode : List (ℕ × ℕ) → List (List (ℕ × ℕ)) → ℕ → Node → Type 0
 StoresNode pairs lists k (Whole start count) = (start + count ≤ length pairs) × (count ≤ MOST_WHOLE)
 StoresNode pairs lists k (Halved h) = IsHalved lists k h
 
--- `AreNodes` holds if each node, which stores one list, stores it in a valid way (`StoresNode`), if the stored lists
--- satisfy `AreStored`, and if the first node stores the empty list.
+-- Each node stores one list, as a range of the buffer `pairs` or as the IDs of the two halves of the list. `AreNodes`
+-- holds under three conditions. First, each of these ranges and IDs is correct (`StoresNode`). Second, the stored lists
+-- satisfy `AreStored`. Third, the first node stores the empty list.
 pub record AreNodes (pairs : List (ℕ × ℕ)) (nodes : List Node) : Type 0 where
   pub stored : AreStored (lists_of_nodes pairs nodes)
   pub empty : node_at nodes 0 ≡ Whole 0 0
@@ -83,7 +87,7 @@ pub record AreNodes (pairs : List (ℕ × ℕ)) (nodes : List Node) : Type 0 whe
 
 -- A `Shape` describes a list in one of two ways: it has the pairs of the list, or the IDs of the two halves of the
 -- list. `IsShape` holds if the shape describes the list with the ID k. If the shape has the pairs of the list, the list
--- must be short enough to be stored whole (at most `MOST_WHOLE` pairs).
+-- must have at most 64 pairs (`MOST_WHOLE`).
 abbrev pub IsShape : List (List (ℕ × ℕ)) → ℕ → Shape → Type 0
 IsShape lists k (Pairs list) = (list.now ≡ list_at lists k) × (length list.now ≤ MOST_WHOLE)
 IsShape lists k (Cut h) = IsHalved lists k h
@@ -95,17 +99,17 @@ abbrev pub list_of_shape : List (List (ℕ × ℕ)) → Shape → List (ℕ × �
 list_of_shape lists (Pairs list) = list.now
 list_of_shape lists (Cut h) = list_at lists h.below ++ list_at lists h.above
 
--- `IsWholeList` holds if the list can be stored whole, as a range of pairs. This means that the list has at least one
--- and at most `MOST_WHOLE` pairs, that the pairs are in strictly ascending order, and that the second component of each
--- pair is less than 2^32.
+-- `IsWholeList` holds if a new list can be stored as a range of pairs. This requires that the list has at least one and
+-- at most 64 pairs (`MOST_WHOLE`). The pairs must be in strictly ascending order. The second component of each pair
+-- must be less than 2^32.
 pub record IsWholeList (list : List (ℕ × ℕ)) : Type 0 where
   pub some : 0 < length list
   pub few : length list ≤ MOST_WHOLE
   pub ascending : IsStrictlySortedBy pair_cmp list
   pub fit : Fit list
 
--- `AreHalvesIn` holds if h has the IDs of two of the lists, and if these two lists are the halves of a list that is too
--- long to be stored whole (it has more than `MOST_WHOLE` pairs).
+-- `AreHalvesIn` holds if h has the IDs of two lists in `lists`, and if these two lists are the two halves of a list of
+-- more than 64 pairs (`MOST_WHOLE`).
 pub record AreHalvesIn (lists : List (List (ℕ × ℕ))) (h : Halves) : Type 0 where
   pub below : h.below < length lists
   pub above : h.above < length lists

@@ -6,7 +6,7 @@ use Rattle.signatures.specs.declared.union_cache.Union.{Union}
 use Rattle.signatures.specs.Lists.{list_at}
 use Rattle.signatures.specs.Cuts.{IsCut, IsParted}
 
--- `Unites` holds if `list` is the union of xs and ys: a pair is in `list` if and only if it is in xs or in ys.
+-- `Unites` holds if `list` is the union of xs and ys: a pair is in `list` if and only if the pair is in xs or in ys.
 abbrev pub Unites : List (ℕ × ℕ) → List (ℕ × ℕ) → List (ℕ × ℕ) → Type 0
 Unites list xs ys = (z : ℕ × ℕ) → Contains list z ↔ (Contains xs z ⊎ Contains ys z)
 
@@ -17,38 +17,41 @@ pub record IsUnion (lists : List (List (ℕ × ℕ))) (key : ℕ × ℕ) (i : �
   pub second : key.1 < length lists
   pub exactly : Unites (list_at lists i) (list_at lists key.0) (list_at lists key.1)
 
--- `AreUnions` holds if each entry of the union cache is correct: the entry has the IDs of two lists, and the ID of the
--- union of these two lists (`IsUnion`).
+-- `AreUnions` holds if each entry of the union cache is correct. An entry has the IDs of two lists, and the ID of a
+-- third list. The entry is correct if the third list is the union of the two lists (`IsUnion`).
 abbrev pub AreUnions : List (List (ℕ × ℕ)) → List ((ℕ × ℕ) × ℕ) → Type 0
 AreUnions lists unions = (z : (ℕ × ℕ) × ℕ) → Contains unions z → IsUnion lists z.0 z.1
 
--- `IsSplit` holds if the number c divides the list with the ID k into the lists with the IDs `below` and `above`, and
--- if both of these IDs are at most k. The list with the ID `below` has the pairs that are less than c, and the list
--- with the ID `above` has the other pairs.
+-- `IsSplit` holds if the number c divides the list with the ID k into two stored lists, whose IDs are `below` and
+-- `above`. To compare a pair with c, the pair is represented by a number (`pair_value`). The list with the ID `below`
+-- has the pairs that are less than c, and the list with the ID `above` has the other pairs. The IDs `below` and `above`
+-- must be at most k.
 pub record IsSplit (lists : List (List (ℕ × ℕ))) (k c below above : ℕ) : Type 0 where
   pub first : below ≤ k
   pub second : above ≤ k
   pub parted : IsParted (list_at lists k) c (list_at lists below) (list_at lists above)
 
--- `AreSplit` is about the two lists whose IDs are in `two`. It holds if c is the split point of their union, which is
--- the number that divides the union into two halves, and if c divides each of the two lists into a lower and an upper
--- part. The IDs of the two lower parts are in `below`, and the IDs of the two upper parts are in `above`.
+-- `AreSplit` is about the two lists whose IDs are in `two`. It holds under two conditions. First, the number c divides
+-- each of these two lists into a lower and an upper part. The IDs of the two lower parts are in `below`, and the IDs of
+-- the two upper parts are in `above`. Second, c is the split point of the union of the two lists, which is the number
+-- at which the union is divided into two halves.
 pub record AreSplit (lists : List (List (ℕ × ℕ))) (two : ℕ × ℕ) (c : ℕ) (below above : ℕ × ℕ) : Type 0 where
   pub first : IsSplit lists two.0 c below.0 above.0
   pub second : IsSplit lists two.1 c below.1 above.1
   pub cut : (list : List (ℕ × ℕ)) → Unites list (list_at lists two.0) (list_at lists two.1) → IsCut list c
 
--- `IsSplitWith` is about the list with the ID k and the list `some`. It holds if c is the split point of their union,
--- which is the number that divides the union into two halves, and if c divides each of the two lists into a lower and
--- an upper part. The value `below` has the ID of the lower part of the first list, and the lower part of the list
--- `some`. The value `above` has the ID of the upper part of the first list, and the upper part of the list `some`.
+-- `IsSplitWith` is about two lists: the list with the ID k, and the list `some`. It holds under two conditions. First,
+-- the number c divides each of these two lists into a lower and an upper part. The value `below` has the ID of the
+-- lower part of the list with the ID k, and the lower part of `some`. The value `above` has the ID of the upper part of
+-- the list with the ID k, and the upper part of `some`. Second, c is the split point of the union of the two lists,
+-- which is the number at which the union is divided into two halves.
 pub record IsSplitWith (lists : List (List (ℕ × ℕ))) (k : ℕ) (some : List (ℕ × ℕ)) (c : ℕ) (below above : ℕ
     × List (ℕ × ℕ)) : Type 0 where
   pub list : IsSplit lists k c below.0 above.0
   pub pairs : IsParted some c below.1 above.1
   pub cut : (list : List (ℕ × ℕ)) → Unites list some (list_at lists k) → IsCut list c
 
--- Returns an entry of the cache as two parts: the IDs of two lists, and the ID of their union.
+-- Returns the two parts of an entry of the union cache: the IDs of two lists, and the ID of the union of these lists.
 abbrev pub union_entry : Union → (ℕ × ℕ) × ℕ
 union_entry u = ((u.first, u.second), u.union)
 
@@ -57,8 +60,8 @@ union_entry u = ((u.first, u.second), u.union)
 abbrev pub IsNone : (ℕ × ℕ) × ℕ → Type 0
 IsNone z = z ≡ ((0, 0), 0)
 
--- `HasSlots` holds if the union cache, which is a hash table, has at least one slot and fewer than 2^32 slots. Then a
--- hash of 32 bits can select each slot.
+-- `HasSlots` holds if the union cache, which is a hash table, has at least one slot and fewer than 2^32 slots. Then
+-- each slot can be selected by a hash of 32 bits.
 pub record HasSlots (count : ℕ) : Type 0 where
   pub some : 0 < count
   pub few : count < 2 ^ 32

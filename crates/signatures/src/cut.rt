@@ -1,12 +1,13 @@
-//! Computes the split point of a list of pairs, which is the number that divides the list into two halves: the pairs
-//! that are less than this number, and all other pairs. For this comparison, each pair is represented by a number.
+//! Computes the split point of a list of pairs, which is the number at which the list is divided into two halves. To
+//! compare a pair with the split point, the pair is represented by a number. The first half has the pairs that are less
+//! than the split point, and the second half has all other pairs.
 ghost use Rattle.std.specs.Prelude.{◌≡◌, ℕ, ◌<◌};
 ghost use Rattle.std.specs.List.Sorted.{IsStrictlySortedBy};
 ghost use Rattle.signatures.specs.Lists.{pair_cmp};
 ghost use Rattle.signatures.specs.Cuts.{pair_value, Fit, IsParted, IsCutPoint};
 
-/// Returns the number that represents the pair: its first component times 2^32, plus its second component. The order of
-/// these numbers is the order of the pairs.
+/// Returns the number that represents the pair: its first component times 2^32, plus its second component. Comparing
+/// two of these numbers gives the same result as comparing the two pairs.
 #[inline(always)]
 pub(crate) fn key(pair: (u32, u32)) -> u64
     ensures { result ≡ pair_value pair }
@@ -25,10 +26,10 @@ pub(crate) fn fit(pairs: &[(u32, u32)])
     }
 }
 
-/// Returns the split point of the range from `low` to `high`, which is the number at which a list that ranges from
-/// `low` to `high` is divided into two halves. For this division, each pair of the list is represented by a number.
-/// Among all numbers greater than `low` and at most `high`, the split point is the number that is divisible by the
-/// highest power of two.
+/// Suppose that each pair of a list is represented by a number (`key`), that `low` is the number for the first pair,
+/// and that `high` is the number for the last pair. Then this function returns the split point of the list, which is
+/// the number at which the list is divided into two halves. Among all numbers that are greater than `low` and at most
+/// `high`, the split point is the number that is divisible by the highest power of two.
 #[inline(always)]
 pub(crate) fn cut(low: u64, high: u64) -> u64
     requires { low < high }
@@ -38,9 +39,9 @@ pub(crate) fn cut(low: u64, high: u64) -> u64
     (high >> bit) << bit
 }
 
-/// Divides the list `pairs` into two parts by the number `cut`. The first result has the pairs that are less than
-/// `cut`, and the second result has the pairs that are at least `cut`. For this comparison, each pair is represented by
-/// a number (`key`).
+/// Divides the list `pairs` into two parts at the number `cut`. To compare a pair with `cut`, the pair is represented
+/// by a number (`key`). The first part has the pairs that are less than `cut`, and the second part has the pairs that
+/// are at least `cut`.
 pub(crate) fn parted(pairs: &[(u32, u32)], cut: u64) -> (&[(u32, u32)], &[(u32, u32)])
     requires ascending { IsStrictlySortedBy pair_cmp pairs.now }
     requires fit { Fit pairs.now }

@@ -1,5 +1,6 @@
 //! Stores each list of pairs in two parts: the ID of a base, which is a list of pairs that several lists can share, and
-//! extra pairs, which the base lacks. The bases are stored in the trie. A list has at most `MOST_WHOLE` extra pairs.
+//! extra pairs, which the base lacks. The bases are stored in the trie. A list has at most 64 extra pairs
+//! (`MOST_WHOLE`).
 ghost use Rattle.std.specs.Prelude.{◌≡◌, ◌++◌, ◌∷◌, ◌<◌, ◌≤◌, [], length, IfOk, OnOk, OnErr};
 ghost use Rattle.signatures.specs.Extensions.{parts_of, extension_at};
 ghost use Rattle.signatures.specs.declared.nodes.TheConstants.{MOST_WHOLE};
@@ -19,8 +20,8 @@ pub(crate) struct Extension<'a> {
 }
 
 /// A slot of the table stores one list. The list consists of a base, which is a list of pairs that several lists can
-/// share, and of extra pairs, which the base lacks. The slot has the ID of the base, and the range of the extra pairs
-/// in the buffer of all extra pairs.
+/// share, and of extra pairs, which the base lacks. The slot has the ID of the base. It also has the range of the extra
+/// pairs in one buffer, which stores the extra pairs of all lists.
 #[derive(Clone, Copy)]
 struct Slot {
     base: u32,
@@ -28,8 +29,8 @@ struct Slot {
     start: usize,
 }
 
-/// The slot that stores the empty list. The base of this list, which is the part that several lists can share, is the
-/// empty list itself. So the base lacks no pairs of the list, and there are no extra pairs.
+/// The slot that stores the empty list. The base of a list is the part that several lists can share. For the empty
+/// list, the base is the empty list itself, and there are no extra pairs.
 const NO_SLOT: Slot = Slot {
     base: EMPTY,
     count: 0,
@@ -40,8 +41,8 @@ const NO_SLOT: Slot = Slot {
 /// and as extra pairs, which the base lacks.
 #[derive(Drop)]
 pub(crate) struct Extensions {
-    /// The extra pairs of one list after the other: the pairs that are not in the base of the list, which is the part
-    /// that several lists can share.
+    /// The extra pairs of all lists, one list after the other. The extra pairs of a list are the pairs that are not in
+    /// its base, which is the part of the list that several lists can share.
     pairs: Vec<(u32, u32)>,
     slots: Vec<Slot>,
 }
@@ -59,8 +60,8 @@ impl Model for Extensions {
 }
 
 impl Extensions {
-    /// Makes a table that has only the empty list, and has room for `room` other lists. If the table grew by doubling
-    /// instead, it would take up to a third more memory.
+    /// Makes a table that has only the empty list, and allocates memory for `room` other lists. Without this
+    /// allocation, the table would grow by doubling, and would take up to a third more memory.
     pub fn new(alloc: Global, room: u32) -> Result<Extensions, Memory>
         ensures { IfOk result (λ x. x ≡ (0, []) ∷ []) }
     {

@@ -19,8 +19,8 @@ pub(crate) fn fingerprint(list: &[(u32, u32)]) -> u64
 }
 
 /// Multiplies the number by a constant, modulo 2^64, and returns the upper 32 bits of the product. The number is the
-/// fingerprint of a list (a hash of 64 bits) or another hash. Without the multiplication, the hashes of lists that
-/// differ in only a few components would be close together.
+/// fingerprint of a list (a hash of 64 bits), or another hash. Without the multiplication, lists that differ in only a
+/// few components would have results that are close together.
 #[inline(always)]
 pub(crate) fn mix(number: u64) -> u32
     ensures { result ≡ mixed number }

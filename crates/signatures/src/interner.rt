@@ -1,5 +1,6 @@
-//! The public layer of this crate: interned lists of pairs, and their unions. A list is stored as a base, which is a
-//! list of pairs that several lists can share, and as extra pairs, which the base lacks.
+//! This module is the public layer of the crate. It interns lists of pairs, and computes unions of these lists. A list
+//! is stored as a base, which is a list of pairs that several lists can share, and as extra pairs, which the base
+//! lacks.
 ghost use Rattle.std.specs.Prelude.{◌≡◌, ◌⊎◌, ◌↔◌, ℕ, ◌++◌, ◌∷◌, ◌<◌, List, [], length, IfOk, IfSome, OnOk, OnErr};
 ghost use Rattle.std.specs.Prelude.{IsTrue};
 ghost use Rattle.std.specs.List.{All, Contains};
@@ -19,8 +20,8 @@ use memory::Memory;
 use std::alloc::Global;
 use std::marker::Model;
 
-/// Interned lists of pairs, each in strictly ascending order. No two of these lists are equal, so equal lists have
-/// equal IDs. The empty list has the ID `EMPTY`.
+/// Interned lists of pairs. Each list is in strictly ascending order, and is stored only once, so that equal lists have
+/// the same ID. The empty list has the ID `EMPTY`.
 pub struct Interner {
     bases: Bases,
     table: Table,
@@ -47,8 +48,8 @@ impl Model for Interner {
 }
 
 impl Interner {
-    /// Makes an interner that has only the empty list, and has room for `room` other lists. If the tables grew by
-    /// doubling instead, they would take up to a third more memory.
+    /// Makes an interner that has only the empty list, and allocates memory for `room` other lists. Without this
+    /// allocation, the tables would grow by doubling, and would take up to a third more memory.
     pub fn new(alloc: Global, room: u32) -> Result<Interner, Memory>
         ensures { IfOk result (λ x. x ≡ [] ∷ []) }
     {
@@ -66,7 +67,8 @@ impl Interner {
         })
     }
 
-    /// This call is a lemma: it does nothing at run time. Its contract states the invariants of the lists (`AreLists`).
+    /// This call is a lemma: it does nothing at run time. Its contract states properties that the lists of every
+    /// interner have (`AreLists`).
     pub fn invariants(&self)
         ensures { AreLists self.now }
     {
@@ -75,7 +77,7 @@ impl Interner {
         let _ = &self.table.extensions;
     }
 
-    /// Returns the number of lists.
+    /// Returns the number of lists, including the empty list.
     pub fn len(&self) -> u32
         ensures { result ≡ length self.now }
     {
@@ -142,9 +144,9 @@ impl Interner {
         list.base == other.base && has_all(list.extra, other.extra)
     }
 
-    /// Returns the ID of the last list in `lists` if a quick test shows that this list has all pairs of the other lists
-    /// and all pairs in `pairs`. Then the last list is the union of all these lists and of `pairs`, so that nothing
-    /// needs to be sorted.
+    /// A quick test can show that the last list with an ID in `lists` has all pairs of the other lists with an ID in
+    /// `lists`, and all pairs in `pairs`. Then this last list is the union of all these lists and of `pairs`, and the
+    /// call returns its ID, so that nothing needs to be sorted. In all other cases, the call returns `None`.
     fn last_with_all(&self, lists: &[u32], pairs: &[(u32, u32)]) -> Option<u32>
         requires { AreIds self.now lists.now }
         ensures within { IfSome result (λ k. k < length self.now) }
@@ -164,7 +166,8 @@ impl Interner {
     }
 
     /// Computes the union of the lists with the IDs in `lists` and of `pairs`, and returns the ID of the union. The
-    /// pairs may be in any order. The content of `pairs` after the call is unspecified.
+    /// pairs may be in any order. The call uses `pairs` as working memory, so that the contents of `pairs` after the
+    /// call are unspecified.
     ///
     /// Each list is stored in two parts: a base, which is a list of pairs that several lists can share, and the extra
     /// pairs, which the base lacks. To unite the lists, the call first computes and stores unions of their bases. If
@@ -198,8 +201,8 @@ impl Interner {
     }
 }
 
-/// If the result is true, the list with the ID `k` has all pairs of each list with an ID in `ids`. The result is false
-/// if `has_list` returns false for one of these lists.
+/// If the result is true, the list with the ID `k` has all pairs of each list with an ID in `ids`. If `has_list`
+/// returns false for one of the lists other than `k`, the result is false.
 fn has_lists(lists: &Interner, k: u32, ids: &[u32]) -> bool
     requires list { k < length lists.now }
     requires ids { AreIds lists.now ids.now }

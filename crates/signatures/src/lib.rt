@@ -3,12 +3,12 @@
 //! states.
 //!
 //! A list is stored in two parts: a base, which is a list of pairs that many lists can share, and a few extra pairs,
-//! which the base lacks. The bases are interned in a lower layer, the trie, and have IDs there. The trie stores a short
-//! list as a range of pairs. It stores a long list as the IDs of its two halves, which are themselves lists of the
-//! trie. Each of the following modules uses only modules that come after it, and uses them only through their
-//! contracts.
+//! which the base lacks. The bases are interned in a lower layer, which is called the trie, and have IDs there. The
+//! trie stores a short list as a range of pairs. It stores a long list as the IDs of its two halves, which are
+//! themselves lists of the trie. Each of the following modules uses only modules that come after it in this list, and
+//! uses them only through their contracts.
 //!
-//! * `interner` has the public type `Interner`, which other crates use.
+//! * `interner` has the public type `Interner`.
 //! * `list_union` computes the union of several lists.
 //! * `table` interns lists, so that equal lists get the same ID.
 //! * `extensions` stores each list in two parts: a base, which is a list that other lists can share, and the extra
@@ -19,13 +19,14 @@
 //! * `trie_lookup` finds a list of the trie by its tag, which is a hash.
 //! * `union_cache` stores the IDs of unions that were computed before.
 //! * `nodes` stores each list of the trie, either as a range of pairs or as the IDs of its two halves.
-//! * `cut` computes the number that divides a list into two halves, and `hashes` computes hashes of lists.
+//! * `cut` computes the number at which a list is divided into two halves, and `hashes` computes hashes of lists.
 //! * `sorted_lists` sorts pairs, and `sort_by_marks` sorts pairs by marks (bits) if there are many pairs.
 //!
-//! A long list is divided into two halves by a number, which is called the split point of the list. To define the split
-//! point, each pair is represented by a number. Among all numbers that are greater than the first pair and at most the
-//! last pair, the split point is the number that is divisible by the highest power of two. So the two halves depend
-//! only on the pairs of the list. Lists that differ in only a few pairs have most halves in common.
+//! A long list is divided into two halves at a number, which is called the split point of the list. To compare a pair
+//! with the split point, the pair is represented by a number. Among all numbers that are greater than the first pair
+//! and at most the last pair, the split point is the number that is divisible by the highest power of two. So the two
+//! halves depend only on the pairs of the list. If two lists differ in only a few pairs, they have most of their halves
+//! in common.
 //!
 //! A call that returns a `Result` fails only if an allocation fails. The error is then `Memory`.
 #![tactic(auto)]

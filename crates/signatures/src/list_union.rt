@@ -15,18 +15,19 @@ use buckets::EMPTY;
 use memory::Memory;
 use std::mem::swap;
 
-/// A list is stored as a base, which is a list of pairs that several lists can share, and as extra pairs, which the
-/// base lacks. If a union is made of at most `MOST_MERGED_LISTS` lists, the extra pairs of those lists that have the
-/// same base as the union are merged into the union, one list after the other. Each merge copies the pairs that were
-/// merged before. Without the bound on the number of lists, the time would be proportional to the number of pairs times
-/// the number of lists. This time would be too long for a state with inert transitions to 80,000 states, each with a
-/// label of its own. With the bound, each pair is copied at most 16 times. If the pairs were always sorted, and never
-/// merged, the minimisation of systems that are grids would take 3 % more time.
+/// Lists and their unions are stored as a base, which is a list of pairs that several lists can share, and as extra
+/// pairs, which the base lacks. Suppose that a union is made of at most 16 lists (`MOST_MERGED_LISTS`). Then the extra
+/// pairs of each list that has the same base as the union are merged into the union, one list after the other. Each
+/// merge copies the pairs that were merged before. Without the bound on the number of lists, the time would be
+/// proportional to the number of pairs times the number of lists. This time would be too long for a state that has
+/// inert transitions (internal transitions within its block) to 80,000 other states, if each of these states has a
+/// transition with its own label. With the bound, each pair is copied at most 16 times. If the pairs were always
+/// sorted, and never merged, the minimisation of systems that are grids would take 3 % more time.
 const MOST_MERGED_LISTS: usize = 16;
 
 /// Computes the union of the lists with the IDs `ids` and of `pairs`. The call returns the ID of a base, which is a
-/// list of pairs that several lists can share, and sets `pairs` to extra pairs, which the base lacks. The union has
-/// exactly the pairs of this base and these extra pairs.
+/// list of pairs that several lists can share, and replaces the contents of `pairs` by the extra pairs, which the base
+/// lacks. The union has exactly the pairs of this base and these extra pairs.
 pub(crate) fn union_of(
     bases: &mut Bases,
     extensions: &Extensions,
@@ -51,10 +52,10 @@ pub(crate) fn union_of(
     Ok(base)
 }
 
-/// Each list has a base, which is a list of pairs that several lists can share and is stored in the trie. The function
-/// `base_of` computes the union of the bases of the lists with the IDs `ids`, and returns the ID of this union in the
-/// trie. It first computes the union for each half of `ids`, and then unites the two results. If it processed the IDs
-/// one after the other instead, it would build the whole union again for each ID.
+/// Each list has a base, which is a list of pairs that several lists can share. The bases are stored in the trie. The
+/// function `base_of` computes the union of the bases of the lists with the IDs `ids`, and returns the ID of this union
+/// in the trie. It divides `ids` into two halves, computes the union of the bases for each half, and then unites the
+/// two results. If it processed the IDs one after the other instead, it would build the whole union again for each ID.
 fn base_of(bases: &mut Bases, extensions: &Extensions, ids: &[u32]) -> Result<u32, Memory>
     requires extensions { All (IsExtension bases.old.trie) extensions.now }
     requires ids { All (λ k. k < length extensions.now) ids.now }
@@ -77,10 +78,11 @@ fn base_of(bases: &mut Bases, extensions: &Extensions, ids: &[u32]) -> Result<u3
     bases.both(j, k)
 }
 
-/// Returns whether the base of a list, which is the part that several lists can share, is also the base of the union
-/// that is computed. The argument `base` is the ID of the base of the list, and `own` is the ID of the base of the
-/// union, or `None` if more than `MOST_MERGED_LISTS` lists are united. If the result is true, the extra pairs of the
-/// list, which its base lacks, are merged into the union. Otherwise, these extra pairs are sorted.
+/// Returns whether the base of a list, which is the part that several lists can share, is also the base of a union that
+/// is computed. The argument `base` is the ID of the base of the list. The argument `own` is the ID of the base of the
+/// union, or `None` if more than 16 lists are united (`MOST_MERGED_LISTS`). If the result is true, the extra pairs of
+/// the list, which its base lacks, are merged into the union. Otherwise, these extra pairs are sorted together with all
+/// other pairs.
 #[inline(always)]
 fn is_own(own: Option<u32>, base: u32) -> bool
     ensures { IsTrue result ↔ (own ≡ Some base) }
@@ -90,7 +92,7 @@ fn is_own(own: Option<u32>, base: u32) -> bool
 
 /// A list is stored as a base, which is a list of pairs that several lists can share, and as extra pairs, which the
 /// base lacks. `gather` appends to `pairs` the extra pairs of each list that has an ID in `ids`, and whose base does
-/// not have the ID `own`.
+/// not have the ID `own`. If `own` is `None`, this applies to all lists with an ID in `ids`.
 fn gather(
     extensions: &Extensions,
     ids: &[u32],
@@ -132,7 +134,7 @@ fn remove_pairs_of(trie: &Trie, base: u32, pairs: &mut Vec<(u32, u32)>)
 
 /// A list is stored as a base, which is a list of pairs that several lists can share, and as extra pairs, which the
 /// base lacks. `merge` merges into `pairs` the extra pairs of each list that has an ID in `ids`, and whose base has the
-/// ID `own`. The vector `held` is working memory for the merges.
+/// ID `own`. If `own` is `None`, the call changes nothing. The vector `held` is working memory for the merges.
 fn merge(
     extensions: &Extensions,
     ids: &[u32],

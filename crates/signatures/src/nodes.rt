@@ -1,7 +1,7 @@
 //! This module is the lowest layer of the crate, and stores lists of pairs. A short list is stored as a range of pairs,
-//! and a long list is stored as the IDs of its two halves. A number, which is called the split point of the list,
-//! divides the long list into its halves. The first half has the pairs that are less than this number, and the second
-//! half has the other pairs. For this comparison, each pair is represented by a number.
+//! and a long list is stored as the IDs of its two halves. A long list is divided into its halves at a number, which is
+//! called the split point of the list. To compare a pair with the split point, the pair is represented by a number. The
+//! first half has the pairs that are less than the split point, and the second half has the other pairs.
 ghost use Rattle.std.specs.Prelude.{◌≡◌, ◌++◌, ◌∷◌, ◌+◌, ◌<◌, ◌≤◌, [], length, IfOk, OnOk, OnErr};
 ghost use Rattle.std.specs.List.{slice_range};
 ghost use Rattle.signatures.specs.Nodes.{list_of_shape, Suits, IsShape, AreStored};
@@ -17,9 +17,9 @@ pub const MOST_LISTS: usize = 0xFFFF_FFFF;
 /// A list with at most this number of pairs is stored as a range of pairs. A longer list is stored as two halves.
 pub(crate) const MOST_WHOLE: usize = 64;
 
-/// The IDs of the two halves of a list, and the number that divides the list into these halves (`cut`, the split point
-/// of the list). The half `below` has the pairs that are less than `cut`, and the half `above` has the other pairs. For
-/// this comparison, each pair is represented by a number.
+/// The IDs of the two halves of a list, and the split point of the list (`cut`), which is the number at which the list
+/// is divided into these halves. To compare a pair with `cut`, the pair is represented by a number. The half with the
+/// ID `below` has the pairs that are less than `cut`, and the half with the ID `above` has the other pairs.
 #[derive(Clone, Copy, PartialEq, Eq)]
 pub(crate) struct Halves {
     pub below: u32,
@@ -27,7 +27,8 @@ pub(crate) struct Halves {
     pub cut: u64,
 }
 
-/// How a list is stored: as the `count` pairs from the index `start` of the buffer on, or as the IDs of its two halves.
+/// A node stores one list. It has either the range of the pairs of the list in a buffer (`count` pairs from the index
+/// `start` on), or the IDs of the two halves of the list.
 #[derive(Clone, Copy)]
 enum Node {
     Whole { start: usize, count: u32 },
@@ -47,7 +48,7 @@ pub(crate) enum Shape<'a> {
 pub(crate) struct Nodes {
     /// The pairs of all lists that are stored as ranges of pairs, one list after the other.
     pairs: Vec<(u32, u32)>,
-    /// For each list, the form in which it is stored.
+    /// The node of each list. A node has the range of the pairs of its list, or the IDs of the two halves of its list.
     nodes: Vec<Node>,
 }
 
@@ -76,8 +77,8 @@ impl Nodes {
         })
     }
 
-    /// This call is a lemma: it does nothing at run time. Its contract states the invariants of the lists
-    /// (`AreStored`).
+    /// This call is a lemma: it does nothing at run time. Its contract states properties that the lists of every store
+    /// have (`AreStored`).
     pub fn invariants(&self)
         ensures { AreStored self.now }
     {

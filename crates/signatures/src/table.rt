@@ -29,9 +29,8 @@ pub(crate) struct Table {
 impl Table {
     /// Interns the list that consists of the pairs in `pairs` and of the pairs of a base, which is a list of pairs that
     /// several lists can share. Returns the ID of the interned list. The base is the list with the ID `base` in the
-    /// trie, and must have none of the pairs in `pairs`. If `pairs` has more than `MOST_WHOLE` pairs, which is the
-    /// largest number of pairs that are stored outside the trie, the call first adds the whole list to the trie, and
-    /// uses it as the base.
+    /// trie, and must have none of the pairs in `pairs`. If `pairs` has more than 64 pairs (`MOST_WHOLE`), the call
+    /// first adds the whole list to the trie. The whole list is then its own base, and has no extra pairs.
     pub fn intern_with(
         &mut self,
         bases: &mut Bases,
@@ -56,7 +55,7 @@ impl Table {
     }
 
     /// Interns a list, and returns its ID. The list is given as a base, which is a list of pairs that several lists can
-    /// share, and as at most `MOST_WHOLE` extra pairs, which the base lacks.
+    /// share, and as at most 64 extra pairs (`MOST_WHOLE`), which the base lacks.
     fn intern(&mut self, bases: &mut Bases, list: Extension<'_>) -> Result<u32, Memory>
         requires extensions { AreExtended bases.old.trie self.old.extensions self.old.buckets.tags }
         requires list { IsExtension bases.old.trie (parts_of list) }
@@ -78,8 +77,8 @@ impl Table {
         Ok(id)
     }
 
-    /// Returns the ID of the stored list that is equal to `list`, if there is such a list. The argument `tag` is the
-    /// tag of `list`, which is a hash of 32 bits.
+    /// Returns the ID of the stored list that is equal to `list`, or `None` if there is no such list. The argument
+    /// `tag` is the tag (a hash of 32 bits) of `list`.
     fn find(&self, bases: &mut Bases, list: Extension<'_>, tag: u32) -> Result<Option<u32>, Memory>
         requires extensions { AreExtended bases.old.trie self.now.extensions self.now.buckets.tags }
         requires list { IsExtension bases.old.trie (parts_of list) }
@@ -121,7 +120,7 @@ impl Table {
     }
 }
 
-/// Computes the fingerprint of the list, which is a hash of 64 bits. A list is stored as a base, which is a list of
+/// Computes the fingerprint (a hash of 64 bits) of the list `list`. The list is stored as a base, which is a list of
 /// pairs that several lists can share, and as extra pairs, which the base lacks. The fingerprint of the list is the sum
 /// of the fingerprints of its base and of its extra pairs, modulo 2^64.
 #[inline(always)]
@@ -134,8 +133,8 @@ fn sum_of(trie: &Trie, list: Extension<'_>) -> u64
 
 /// Returns whether the lists `one` and `other` are equal. Each list is given as a base, which is a list of pairs that
 /// several lists can share, and as extra pairs, which the base lacks. If the two lists have the same base, their extra
-/// pairs are compared. If the two lists have different bases and equal fingerprints (hashes of 64 bits), both lists are
-/// interned in the trie, and their IDs in the trie are compared.
+/// pairs are compared. If their fingerprints (hashes of 64 bits) differ, the lists differ. If their bases differ and
+/// their fingerprints are equal, both lists are interned in the trie, and their IDs in the trie are compared.
 fn is_same(bases: &mut Bases, one: Extension<'_>, other: Extension<'_>) -> Result<bool, Memory>
     requires one { IsExtension bases.old.trie (parts_of one) }
     requires other { IsExtension bases.old.trie (parts_of other) }

@@ -1,5 +1,5 @@
 //! Interns bases, which are lists of pairs that other lists can share. This module also owns the union cache, which
-//! remembers the unions of bases. The module is the layer above `nodes`.
+//! remembers the unions of bases. The layer below this module is the module `nodes`, which stores the lists.
 ghost use Rattle.std.specs.Prelude.{◌≡◌, ◌↔◌, ℕ, ◌++◌, ◌∷◌, ◌<◌, List, [], length, IfOk, IfSome, OnOk, OnErr, IsTrue};
 ghost use Rattle.std.specs.List.{Contains};
 ghost use Rattle.std.specs.List.Sorted.{IsStrictlySortedBy};
@@ -24,7 +24,7 @@ use std::marker::Model;
 #[derive(Drop)]
 pub(crate) struct Trie {
     nodes: Nodes,
-    /// The fingerprint of each list, which is a hash of 64 bits.
+    /// The fingerprint (a hash of 64 bits) of each list.
     sums: Vec<u64>,
     /// The hash table, in which the ID of each list is stored under the tag (a hash of 32 bits) of the list.
     buckets: Buckets,
@@ -60,8 +60,8 @@ impl Trie {
         })
     }
 
-    /// This call is a lemma: it does nothing at run time. Its contract states that the lists satisfy `AreStored`, and
-    /// that no two lists are equal.
+    /// This call is a lemma: it does nothing at run time. Its contract states properties that the lists of every trie
+    /// have (`AreStored`). It also states that no two lists of a trie are equal.
     pub fn invariants(&self)
         ensures stored { AreStored self.now }
         ensures different { AreDifferent self.now }
@@ -114,8 +114,8 @@ impl Trie {
     }
 
     /// Appends the list that `shape` describes, and returns its ID. The argument `shape` has either the pairs of the
-    /// list, or the IDs of the two halves of the list. The argument `sum` is the fingerprint of the list, which is a
-    /// hash of 64 bits. The caller must ensure that no stored list is equal to this list.
+    /// list, or the IDs of the two halves of the list. The argument `sum` is the fingerprint (a hash of 64 bits) of the
+    /// list. The caller must ensure that no stored list is equal to this list.
     fn add_list(&mut self, shape: Shape<'_>, sum: u64) -> Result<u32, Memory>
         requires suits { Suits self.old shape }
         requires sum { sum ≡ fingerprint_of (list_of_shape self.old shape) }
@@ -135,7 +135,8 @@ impl Trie {
         Ok(id)
     }
 
-    /// Returns the ID of the union of the lists with the IDs `j` and `k`, if the union is in the union cache.
+    /// Returns the ID of the union of the lists with the IDs `j` and `k`, or `None` if the union is not in the union
+    /// cache.
     pub fn cached_union(&self, j: u32, k: u32) -> Option<u32>
         ensures { IfSome result (IsUnion self.now (j, k)) }
     {

@@ -1,5 +1,5 @@
-//! Finds lists in the trie, which stores the lists that other lists can share, by their hashes (hash-consing). Each of
-//! the lists in the trie has a tag, which is a hash of 32 bits. Equal lists have equal tags.
+//! Finds a list in the trie by its tag, which is a hash of 32 bits (hash-consing). The trie stores lists of pairs that
+//! other lists can share. Equal lists have equal tags.
 ghost use Rattle.std.specs.Prelude.{◌≡◌, ◌↔◌, ◌<◌, length, map, IsTrue, MatchOption};
 ghost use Rattle.signatures.specs.Lists.{list_at};
 ghost use Rattle.signatures.specs.Nodes.{list_of_shape, Suits};
@@ -25,9 +25,9 @@ fn is(nodes: &Nodes, k: u32, shape: Shape<'_>) -> bool
     }
 }
 
-/// Returns the ID of the list that `shape` describes, if this list is stored. The argument `shape` has either the pairs
-/// of the list, or the IDs of the two halves of the list. The argument `tag` is the tag of the list, which is a hash of
-/// 32 bits.
+/// Returns the ID of the list that `shape` describes, or `None` if this list is not stored. The argument `shape` has
+/// either the pairs of the list, or the IDs of the two halves of the list. The argument `tag` is the tag (a hash of 32
+/// bits) of the list.
 pub(crate) fn find(nodes: &Nodes, buckets: &Buckets, shape: Shape<'_>, tag: u32) -> Option<u32>
     requires tags { buckets.now.tags ≡ map tag_of nodes.now }
     requires different { AreDifferent nodes.now }

@@ -1,4 +1,5 @@
-//! The union cache: a hash table of unions that were computed before, so that few unions are computed twice.
+//! The union cache is a hash table of unions that were computed before. Because of the cache, few unions are computed
+//! twice.
 ghost use Rattle.std.specs.Prelude.{◌≡◌, ◌⊎◌, ℕ, ◌<◌, map, length, IfOk, IfSome};
 ghost use Rattle.std.specs.List.{All, Contains};
 ghost use Rattle.signatures.specs.Unions.{union_entry, HasSlots, IsNone};
@@ -28,7 +29,8 @@ pub(crate) struct Union {
     union: u32,
 }
 
-/// The entry that fills each empty slot of the cache: the union of the empty list with itself.
+/// The entry that fills each empty slot of the cache. It states that the union of the empty list with itself is the
+/// empty list.
 const NO_UNION: Union = Union {
     first: 0,
     second: 0,
@@ -66,7 +68,7 @@ impl UnionCache {
         Ok(UnionCache { unions, stored: 0 })
     }
 
-    /// Returns the ID of the union of the lists with the IDs `j` and `k`, if the union is in the cache.
+    /// Returns the ID of the union of the lists with the IDs `j` and `k`, or `None` if the union is not in the cache.
     pub fn find(&self, j: u32, k: u32) -> Option<u32>
         ensures { IfSome result (λ i. Contains self.now ((j, k), i)) }
     {
@@ -114,10 +116,10 @@ fn slot(j: u32, k: u32, slots: usize) -> usize
     bucket(mix(hash(j, u64::from(k))), slots)
 }
 
-/// Adds slots to the union cache, and removes all unions from it, if there are too few slots. The argument `stored` is
-/// the number of unions that have been stored since the cache was made or last cleared, including unions that were
-/// replaced. There are too few slots if `stored` is greater than the number of slots, and if the number of slots is
-/// less than `MOST_SLOTS`.
+/// If there are too few slots, this function adds slots to the union cache, and removes all unions from the cache. The
+/// argument `stored` is the number of unions that have been stored since the cache was made or last cleared, including
+/// unions that were replaced. There are too few slots if `stored` is greater than the number of slots, and the number
+/// of slots is less than `MOST_SLOTS`.
 fn widen(unions: &mut Vec<Union>, stored: usize) -> Result<(), Memory>
     requires { HasSlots (length unions.old.items) }
     ensures slots { HasSlots (length unions.new.items) }

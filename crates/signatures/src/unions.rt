@@ -1,7 +1,8 @@
 //! Makes new bases, which are lists of pairs that other lists can share. The bases are stored in the trie. A base is
-//! made from pairs, from a list and pairs, or from two lists. A long list is stored as two halves: the pairs that are
-//! less than a certain number, the split point of the list, and the other pairs. For this comparison, each pair is
-//! represented by a number.
+//! made from pairs, from a list and pairs, or from two lists. A long list is stored as two halves, and is divided into
+//! these halves at a number, which is called the split point of the list. To compare a pair with the split point, the
+//! pair is represented by a number. The first half has the pairs that are less than the split point, and the second
+//! half has the other pairs.
 ghost use Rattle.std.specs.Prelude.{◌≡◌, ℕ, ◌<◌, ◌≤◌, List, length, IfOk};
 ghost use Rattle.signatures.specs.declared.nodes.TheConstants.{MOST_WHOLE};
 ghost use Rattle.std.specs.List.Sorted.{IsStrictlySortedBy};
@@ -29,8 +30,9 @@ pub(crate) struct Bases {
 }
 
 impl Bases {
-    /// Computes the union of the lists with the IDs `j` and `k`, and returns the ID of the union. If each of the two
-    /// lists is stored as two halves, the call stores the union in the union cache.
+    /// Computes the union of the lists with the IDs `j` and `k`, and returns the ID of the union. If the two lists are
+    /// different and each of them is stored as two halves, the call first searches the union cache for the union. If
+    /// the union is not there, the call computes it and stores it in the cache.
     pub fn both(&mut self, j: u32, k: u32) -> Result<u32, Memory>
         requires first { j < length self.old.trie }
         requires second { k < length self.old.trie }
@@ -60,7 +62,7 @@ impl Bases {
     }
 
     /// Computes the union of the lists with the IDs `few` and `k`, and returns the ID of the union. The list with the
-    /// ID `few` is short (it has at most `MOST_WHOLE` pairs), and the call reads all pairs of this list.
+    /// ID `few` must have at most 64 pairs (`MOST_WHOLE`). The call reads all pairs of this list.
     fn with_list(&mut self, few: u32, k: u32) -> Result<u32, Memory>
         requires few { few < length self.old.trie }
         requires short { length (list_at self.old.trie few) ≤ MOST_WHOLE }
@@ -101,11 +103,12 @@ pub(crate) fn list_of(trie: &mut Trie, pairs: &[(u32, u32)]) -> Result<u32, Memo
     trie.intern(Shape::Halved(Halves { below, above, cut }))
 }
 
-/// Divides the list with the ID `k` into the pairs that are less than the number `cut` (each pair is represented by a
-/// number), and the pairs that are at least `cut`. Returns the IDs of these two parts. The argument `halves` has the
-/// IDs of the two halves of the list, and the split point of the list, which is the number that divides the list into
-/// these halves. If `cut` is the split point, the two parts are the two halves. Otherwise, one part is the whole list,
-/// and the other part is the empty list.
+/// Divides the list with the ID `k` into two parts at the number `cut`, and returns the IDs of the two parts. To
+/// compare a pair with `cut`, the pair is represented by a number. The first part has the pairs that are less than
+/// `cut`, and the second part has the pairs that are at least `cut`. The argument `halves` has the IDs of the two
+/// halves of the list, and the split point of the list, which is the number at which the list is divided into these
+/// halves. If `cut` is the split point, the two parts are the two halves. Otherwise, one part is the whole list, and
+/// the other part is the empty list.
 fn split(k: u32, halves: Halves, cut: u64) -> (u32, u32)
     ensures { (lists : List (List (ℕ × ℕ))) → AreStored lists → IsHalved lists k halves
         → (bit : ℕ) → IsAlike bit (list_at lists k) cut → IsSplit lists k cut result.0 result.1 }
@@ -119,9 +122,10 @@ fn split(k: u32, halves: Halves, cut: u64) -> (u32, u32)
     (halves.below, halves.above)
 }
 
-/// Two lists, each divided into two parts by the number `cut`. This number is the split point of the union of the two
-/// lists, which is the number that divides the union into two halves. For each of the two lists, the field `below` has
-/// the part with the pairs that are less than `cut`, and the field `above` has the part with the other pairs.
+/// Two lists, each of which is divided into two parts at the number `cut`. This number is the split point of the union
+/// of the two lists, which is the number at which the union is divided into two halves. For each of the two lists, the
+/// field `below` has the part with the pairs that are less than `cut`, and the field `above` has the part with the
+/// other pairs.
 #[derive(Clone, Copy)]
 struct Pieces<T> {
     cut: u64,
@@ -129,10 +133,10 @@ struct Pieces<T> {
     above: (u32, T),
 }
 
-/// Divides the list with the ID `k` and the list `pairs` into two parts each: the pairs that are less than the split
-/// point of the union of both lists, and the other pairs. The split point is the number that divides the union into two
-/// halves. The argument `halves` has the IDs of the two halves of the list with the ID `k`, and the number that divides
-/// this list into its halves.
+/// Divides two lists, which are the list with the ID `k` and the list `pairs`, into two parts each. Both lists are
+/// divided at the split point of their union, which is the number at which the union is divided into two halves. The
+/// first part of each list has the pairs that are less than this number, and the second part has the other pairs. The
+/// argument `halves` has the IDs of the two halves of the list with the ID `k`, and the split point of this list.
 fn pieces_with_pairs(k: u32, halves: Halves, pairs: &[(u32, u32)]) -> Pieces<&[(u32, u32)]>
     requires some { 0 < length pairs.now }
     requires cut { 0 < halves.cut }
@@ -192,10 +196,11 @@ pub(crate) fn with(
     }
 }
 
-/// Divides the lists with the IDs `j` and `k` into two parts each: the pairs that are less than the split point of the
-/// union of both lists, and the other pairs. The split point is the number that divides the union into two halves. The
-/// argument `first` has the IDs of the two halves of the list with the ID `j`, and the number that divides this list
-/// into its halves. The argument `second` has the same data for the list with the ID `k`.
+/// Divides the lists with the IDs `j` and `k` into two parts each. Both lists are divided at the split point of their
+/// union, which is the number at which the union is divided into two halves. The first part of each list has the pairs
+/// that are less than this number, and the second part has the other pairs. The argument `first` has the IDs of the two
+/// halves of the list with the ID `j`, and the split point of this list. The argument `second` has the same data for
+/// the list with the ID `k`.
 fn pieces_of_both(j: u32, first: Halves, k: u32, second: Halves) -> Pieces<u32>
     requires first { 0 < first.cut }
     requires second { 0 < second.cut }

@@ -18,7 +18,7 @@ loop-k-preserved-then-not-is_own c = record {
       (λ own. both_ways _ c.if-not-is_own.true (c.is_own.ensures.1 own));
 }
 
--- After the swap, `pairs` has the result of the merge.
+-- After the call of `swap`, the vector `pairs` has the result of the last merge.
 now_are : (c : After-swap) → c.swap.new.y.items ≡ merged c.of-list.result.extra.now c.loop-k.pairs.items
 now_are c = search rules
 

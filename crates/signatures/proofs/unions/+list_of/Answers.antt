@@ -9,8 +9,8 @@ pub cut-cut-requires : goal.cut-cut-requires
 cut-cut-requires t c =
     search (rules, first_before_last, c.requires.ascending, c.requires.fit, c.key.ensures, c.key-2.ensures)
 
--- The number that `cut` returns is the split point of the list `pairs`: the number that divides the list into two
--- halves.
+-- The number that `cut` returns is the split point of the list `pairs`, which is the number at which this list is
+-- divided into two halves.
 at_cut : (t : ℕ) (c : After-parted t) → IsCut c.args.pairs.now c.cut-cut.result
 at_cut t c =
     IsCut-ends (ends_pairs _ c.requires.ascending c.requires.fit (omega arith) c.key.ensures c.key-2.ensures)

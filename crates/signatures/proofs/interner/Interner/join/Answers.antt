@@ -8,13 +8,13 @@ use Rattle.signatures.proofs.Numbering.{AreExtended-grow, Grow-lists}
 use Rattle.signatures.proofs.interner.Interner.join.Goals as goal
 use Rattle.signatures.proofs.interner.Interner.join.Goals.{After-union_of}
 
--- If the last list has all pairs of the other lists and all pairs in `pairs`, then the last list is the union of these
--- lists and of `pairs`.
+-- Suppose that the last of the lists with an ID in `lists` has all pairs of the other lists, and all pairs in `pairs`.
+-- Then this last list is the union of all these lists and of `pairs`.
 pub returns-in-Some-clause-exactly : goal.returns-in-Some-clause-exactly
 returns-in-Some-clause-exactly c z = rw c.deref.ensures.value at (c.in-Some.ensures.exactly z)
 
--- The call of `union_of` may add lists to the trie, which stores the lists that other lists can share. The interned
--- lists are the same as before this call.
+-- The call of `union_of` may add lists to the trie, which stores lists of pairs that other lists can share. The lists
+-- of the interner stay the same.
 module _ (c : After-union_of) where
   extensions : AreExtended c.union_of.new.bases.trie c.self.inside.table.extensions c.self.inside.table.buckets.tags
   extensions = AreExtended-grow c.union_of.ensures.grow _ _ c.self.invariant

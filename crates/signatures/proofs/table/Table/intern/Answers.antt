@@ -32,8 +32,8 @@ returns-in-Some-clause-list c =
 not_both : (c : In_ok-id-2) → c.args.list.base ≡ 0 → c.args.list.extra.now ≡ [] → ⊥
 not_both c = search rules
 
--- If the search finds no stored list that is equal to the given list, and the given list is appended, then the table is
--- still valid (`AreExtended`).
+-- Suppose that the search finds no stored list that is equal to the given list. If the given list is then appended, all
+-- lists of the table are stored correctly, and no two of them are equal (`AreExtended`).
 more : (c : In_ok-id-2) → AreExtended c.args.bases.now.trie (c.args.self.now.extensions ++ parts_of c.args.list ∷ [])
     (c.args.self.now.buckets.tags ++ c.mix-tag.result ∷ [])
 more c =

@@ -14,8 +14,9 @@ pub returns-in_default-shape-clause-union : goal.returns-in_default-shape-clause
 returns-in_default-shape-clause-union t c =
     IfOk-weaker c.with_list-in_default-shape.result _ _ (λ i. IsUnion-swap) c.with_list-in_default-shape.ensures.union
 
--- If the lists with the IDs `j` and `k` are both stored as two halves, the function calls itself recursively for parts
--- of these two lists. In each recursive call, the two parts together have fewer pairs than the two lists together.
+-- Suppose that the lists with the IDs `j` and `k` are both stored as two halves. Then the function divides each of
+-- these two lists into two parts, and calls itself for the two lower parts and for the two upper parts. The two parts
+-- of each recursive call have fewer pairs together than the lists with the IDs `j` and `k` together.
 pub both-requires : goal.both-requires
 both-requires t c =
     let is = c.pieces_of_both-cut.ensures _ c.invariants.ensures.stored c.in-Halved.ensures c.in-Halved-shape.ensures in
@@ -29,10 +30,10 @@ both-requires-2 t c =
     (parted_grown grow grow is.second c.requires.second) is.cut in
     omega (arith, less, grow.longer, is.first.second, is.second.second)
 
--- The split point of the union of the lists with the IDs `j` and `k` is the number that divides the union into two
--- halves. The lower part of each list has the pairs that are less than this number, and the upper part has the other
--- pairs. The first half of the union is the union of the two lower parts, and the second half is the union of the two
--- upper parts.
+-- The split point of the union of the lists with the IDs `j` and `k` is the number at which the union is divided into
+-- two halves. The lower part of each of the two lists has the pairs that are less than this number, and the upper part
+-- has the other pairs. The first half of the union is the union of the two lower parts, and the second half is the
+-- union of the two upper parts.
 united_in : (t : ℕ) (c : In_ok-above t) → AreUnited c.both-2.new.self.trie
     (record { below = c.in_ok-below.below; above = c.in_ok-above.above; cut = c.pieces_of_both-cut.result.cut })
     (list_at c.args.self.now.trie c.args.j) (list_at c.args.self.now.trie c.args.k)
@@ -50,8 +51,8 @@ united_in t c =
 pub intern-requires : goal.intern-requires
 intern-requires t c = (united_in t ((goal.at.intern-requires t c).In_ok-above)).0
 
--- The list that is interned is the union of the lists with the IDs `j` and `k`. So it can be stored as their union in
--- the union cache.
+-- The list that is interned is the union of the lists with the IDs `j` and `k`, so that its ID can be stored in the
+-- union cache.
 module _ (t : ℕ) (c : In_ok-i t) where
   grown : Grow c.args.self.now.trie c.intern.new.self
   grown = Grow-twice (Grow-twice c.both.ensures.grow c.both-2.ensures.grow) c.intern.ensures.grow
