@@ -56,7 +56,7 @@ const ABOUT_MIN: &str = "Writes the equivalent system with the fewest states";
 /// The description of `cmp` in the help text.
 const ABOUT_CMP: &str = "Says whether two systems are equivalent: TRUE or FALSE";
 
-/// A job, which is what the command line asks for: a subcommand with its options.
+/// A job, which is a subcommand with its options. The command line asks the program to do this job.
 #[derive(Debug, Drop, PartialEq, Eq)]
 pub enum Job {
     /// Minimise the system in `file`, or in standard input if there is no file.
@@ -82,7 +82,7 @@ pub enum Job {
 /// The reason why the command line does not lead to a job (a subcommand with its options).
 #[derive(Debug, Drop, PartialEq, Eq)]
 pub enum WordFault {
-    /// The arguments do not have the form of a command. The text comes from `clap` and describes the error.
+    /// The command line is incorrect. The text is the error message.
     Usage(String),
     /// The command line names a relation that does not exist. The string is this name.
     Relation(String),
@@ -105,8 +105,8 @@ impl From<AllocError> for WordFault {
 ///
 /// # Errors
 ///
-/// - `Usage`: the arguments do not have the form of a command.
-/// - `Relation`: `clap` accepts the arguments, but the relation is unknown.
+/// - `Usage`: the command line is incorrect.
+/// - `Relation`: the command line names a relation that does not exist.
 /// - `Help`: the arguments ask for help or for the version.
 /// - `Memory`: an allocation failed.
 pub fn command(alloc: Global, words: Vec<String>) -> Result<Job, WordFault>
@@ -154,8 +154,8 @@ fn described_cmp<'a>(alloc: Global) -> Result<Command<'a>, AllocError>
         .arg(needed_file(alloc, "second", "The second system"))
 }
 
-/// Describes to `clap` what `min` and `cmp` have in common: the name and the summary of the subcommand, and the options
-/// `--relation` and `--hide`.
+/// Describes a subcommand (`min` or `cmp`) to `clap`. The description has the parts that both subcommands share: the
+/// name and the summary of the subcommand, and the options `--relation` and `--hide`.
 fn described_job<'a>(
     alloc: Global,
     name: &'a str,
@@ -171,7 +171,8 @@ fn described_job<'a>(
         .arg(hide_option(alloc))
 }
 
-/// Describes the option `--relation WORD` to `clap`. The value of this option is checked later, by `relation_of`.
+/// Describes the option `--relation WORD` to `clap`. The function `relation_of` checks later whether the value of this
+/// option is the name of a relation.
 fn relation_option<'a>(alloc: Global) -> Arg<'a>
     ensures rule { rule_of result ≡ relation_rule }
     ensures local { result.global ≡ false }
@@ -287,7 +288,8 @@ fn relation_value(alloc: Global, matches: &ArgMatches<'_>) -> Result<Relation, W
     relation_of(alloc, matches.get_str("relation").unwrap_or("strong"))
 }
 
-/// Returns a copy of the value that `clap` has found for the argument `id`, if there is a value.
+/// Returns a copy of the value that `clap` has found for the argument `id`. The result is `None` if `clap` has found no
+/// value.
 fn value_of(alloc: Global, matches: &ArgMatches<'_>, id: &str) -> Result<Option<String>, AllocError>
     ensures { IfOk result (λ text. first_of id.now (rows_of (found_of matches.now))
         ≡ option_map string_bytes text) }

@@ -1,6 +1,6 @@
 -- A system in memory differs from the system that its input describes only in the order of its transitions. So a
--- comparison of the systems in memory has the same verdict (whether the systems are equivalent) and the same number of
--- rounds as a comparison of the systems that the inputs describe. The lemmas below prove this fact.
+-- comparison of two systems in memory has the same verdict (whether the systems are equivalent) as a comparison of the
+-- systems that the inputs describe. It also takes the same number of rounds. The lemmas below prove these facts.
 use Rattle.std.proofs.Common.{rules, ◌≡◌, ◌↔◌, ℕ, ◌+◌, ◌*◌, Bool, IsTrue, List, length, ap₂, sym}
 use Rattle.std.specs.List.Sorted.{IsPermutation}
 use Rattle.std.proofs.lemmas.List.Sorted.{IsPermutation-sym}
@@ -18,8 +18,8 @@ use Rattle.autfmt.specs.Readers.{ReadsAs}
 use Rattle.autbis.specs.Comparisons.{CountsUnion, IsVerdict, ReadBoth, states_of, transitions_of}
 use Rattle.autbis.specs.Runs.{Request}
 
--- The proofs about a comparison rely on the theorems in this record. These theorems say that the order in which a
--- system lists its transitions does not matter.
+-- The theorems in this record say that the order in which a system lists its transitions does not matter. The proofs
+-- about comparisons use these theorems.
 pub record OrderLaws : Type 0 where
   pub permuted : (A B : System) → A.first ≡ B.first → A.states ≡ B.states →
       IsPermutation A.transitions B.transitions → SameSteps A B
@@ -29,8 +29,9 @@ pub record OrderLaws : Type 0 where
       Turns rel (union_of A C) k → Turns rel (union_of B D) k
 
 module _ (law : OrderLaws) (bounds : Bounds) (H : List (List ℕ)) where
-  -- If the labels in H are hidden in the system that an input describes, then the resulting system has the same steps
-  -- as the system in memory.
+  -- Suppose that the system in memory was read from an input, and that the labels in H were hidden when it was read.
+  -- Then this system has the same steps as the system that the input describes, after the labels in H have been hidden
+  -- in it.
   pub steps_of_text : (given : List ℕ) (s : Grouped) (read : ReadsAs bounds given H s) →
       SameSteps (system_of s) (Hide H read.0)
   steps_of_text given s read = search (rules, law.permuted, read.2.first, read.2.states, IsPermutation-sym, read.2.same)
@@ -42,20 +43,21 @@ module _ (law : OrderLaws) (bounds : Bounds) (H : List (List ℕ)) where
 
   module _ (rel : Relation) (given given' : List ℕ) (s t : Grouped)
       (one : ReadsAs bounds given H s) (other : ReadsAs bounds given' H t) where
-    -- Suppose that the labels in H are hidden in the two systems that the inputs describe. Then the resulting systems
-    -- are equivalent if and only if the systems in memory are equivalent.
+    -- Suppose that two systems in memory were read from two inputs, and that the labels in H were hidden. Then the
+    -- systems in memory are equivalent if and only if the systems that the inputs describe are equivalent after the
+    -- labels in H have been hidden in them.
     pub compared : Equivalent rel (system_of s) (system_of t) ↔ Equivalent rel (Hide H one.0) (Hide H other.0)
     compared = search (rules, law.equivalent, steps_of_text, steps_in_memory)
 
-    -- If the refinement of the union of the systems in memory takes k rounds, then the refinement of the union of the
-    -- systems that the inputs describe takes k rounds.
+    -- If the refinement of the union of the two systems in memory takes k rounds, then the refinement of the union of
+    -- the two systems that the inputs describe also takes k rounds. The labels in H are hidden in all these systems.
     pub compared_turns : (k : ℕ) → Turns rel (union_of (system_of s) (system_of t)) k
         → Turns rel (union_of (Hide H one.0) (Hide H other.0)) k
     compared_turns k = search (rules, law.turns, steps_of_text)
 
 module _ (asked : Request) (first second : List ℕ) (s t : Grouped)
     (one : ReadsAs asked.bounds first asked.hidden s) (other : ReadsAs asked.bounds second asked.hidden t) where
-  -- The proof that both inputs are correct and describe the systems `one` and `other`.
+  -- `both_read` proves that both inputs are correct and describe the systems `one` and `other`.
   abbrev pub both_read : ReadBoth asked.bounds first second
   both_read = record {
     one = one.0;
@@ -64,8 +66,8 @@ module _ (asked : Request) (first second : List ℕ) (s t : Grouped)
     reads_second = other.1;
   }
 
-  -- If a verdict (whether the two systems are equivalent) is correct for the systems in memory, it is also correct for
-  -- the systems that the inputs describe.
+  -- If a verdict (whether two systems are equivalent) is correct for the two systems in memory, then it is also correct
+  -- for the two systems that the inputs describe.
   pub verdict_of : (law : OrderLaws) (same : Bool) →
       (IsTrue same ↔ Equivalent asked.relation (system_of s) (system_of t)) →
       IsVerdict asked both_read same
@@ -81,10 +83,10 @@ module _ (asked : Request) (first second : List ℕ) (s t : Grouped)
     transitions_are : length s.places + length t.places ≡ transitions_of both_read
     transitions_are = ap₂ ◌+◌ few few'
 
-    -- The meter counts rounds and visits (reads of transitions). Suppose that the number of rounds is the number of
-    -- rounds in the refinement of the union of the systems in memory, and that the number of visits is within the
-    -- bounds for this union (`StaysWithin`). Then both facts also hold for the union of the systems that the inputs
-    -- describe.
+    -- A meter counts rounds and visits (reads of transitions). Suppose that the refinement of the union of the two
+    -- systems in memory takes as many rounds as the meter has counted. Suppose also that the counted visits are within
+    -- the bounds for this union (`StaysWithin`). Then both facts also hold for the union of the two systems that the
+    -- inputs describe.
     pub counted_whole : (law : OrderLaws) → Turns asked.relation (union_of (system_of s) (system_of t)) at.rounds →
         (let k = length s.places + length t.places in
         StaysWithin (s.states + t.states) k union_passes at ((at.rounds + union_passes) * k)) →

@@ -1,6 +1,7 @@
 -- These lemmas state how a minimisation or a comparison ends: with its output, with an error in an input, or with a
--- failure. The contract of a source (what an input is read from) or of an opener (which opens files by name) may state
--- the contents of an input. The contents that it states are called `revealed`, which is `None` if it states none.
+-- failure. The contract of a source (an object from which an input is read) or of an opener (an object that opens files
+-- by their names) may state the contents of an input. The variable `revealed` has the contents that the contract
+-- states. It is `None` if the contract states no contents.
 use Rattle.std.proofs.Common.{◌≡◌, ◌⊎◌, ℕ, Bool, List, ◌++◌, Option, Some, None, IfSome, if◌then◌else◌}
 use Rattle.std.proofs.Common.{inl, inr, ap, refl, sym, subst}
 use Rattle.std.proofs.lemmas.Option.{none-some}
@@ -40,9 +41,9 @@ use Rattle.autbis.specs.Runs.MinimisationFails.{not_read, out_of_memory, not_wri
 use Rattle.autbis.proofs.Carried.{all_taken, of_all}
 use Rattle.autbis.proofs.InOrder.{told_then}
 
--- Let `given` be the bytes that were read from a source (what an input is read from). Suppose that the property P holds
--- for the bytes `given` followed by all bytes that have not been read yet. If the contract of the source states all
--- bytes of the input (`revealed`), then P holds for these bytes.
+-- Let `given` be the bytes that were read from a source, which is an object from which an input is read. Suppose that
+-- the property P holds for the text that consists of `given` and of all bytes that have not been read yet. If the
+-- contract of the source states the whole input (`revealed`), then P holds for the whole input.
 told_whole : (P : List ℕ → Type 0) (given : List ℕ) (revealed rest : Option (List ℕ)) → Consumes revealed rest given →
     IfSome rest (λ more. P (given ++ more)) → IfSome revealed P
 told_whole P given None rest took first = tt
@@ -53,22 +54,22 @@ told_whole P given (Some text) (Some more) took first = subst P (sym took) first
 abbrev pub NotBoth : Bounds → Type 0
 NotBoth bounds = (text : List ℕ) (A : System) (f : Fault) → Reads bounds text A → ¬ FirstFault bounds text f
 
--- If there is an error in the contents of an input (`FirstFault`), then these contents describe no system (`IsFaulty`).
+-- If the contents of an input have an error (`FirstFault`), then these contents describe no system (`IsFaulty`).
 is_faulty : (bounds : Bounds) → NotBoth bounds → (fault : Fault) (revealed : Option (List ℕ)) →
     IfSome revealed (λ text. FirstFault bounds text fault) →
     IfSome revealed (IsFaulty bounds)
 is_faulty bounds law fault None first = tt
 is_faulty bounds law fault (Some text) first = λ A reads. law text A fault reads first
 
--- If the contents of an input are incorrect, the exit status is 2.
+-- If the error `fault` is an error in the contents of an input, then the exit status for `fault` is 2.
 text_status : (fault : Fault) → IsTextFault fault → status_of fault ≡ 2
 text_status Device h = absurd h
 text_status Memory h = absurd h
 text_status _ h = refl
 
--- Let `given` be the bytes that were read from a source (what an input is read from). Suppose that there is an error
--- (`FirstFault`) in the text that consists of the bytes `given` and of all bytes that have not been read yet. If the
--- contract of the source states all bytes of the input (`revealed`), then these bytes describe no system (`IsFaulty`).
+-- Let `given` be the bytes that were read from a source, which is an object from which an input is read. Suppose that
+-- the text that consists of `given` and of all bytes that have not been read yet has an error (`FirstFault`). If the
+-- contract of the source states the whole input (`revealed`), then the input describes no system (`IsFaulty`).
 faulty_told : (bounds : Bounds) → NotBoth bounds → (given : List ℕ) (revealed rest : Option (List ℕ)) (fault : Fault) →
     Consumes revealed rest given →
     IfSome rest (λ more. FirstFault bounds (given ++ more) fault) → IfSome revealed (IsFaulty bounds)
@@ -76,8 +77,8 @@ faulty_told bounds law given revealed rest fault took first =
     is_faulty bounds law fault revealed (told_whole (λ text. FirstFault bounds text fault) given revealed rest took
     first)
 
--- The definition `EndsRun` lists the ways in which a run (a minimisation or a comparison) may end. If a minimisation
--- writes its whole output, it ends in one of these ways.
+-- `EndsRun` states how a run (a minimisation or a comparison) ended. Suppose that a minimisation succeeded, as
+-- `MinimisesTo` states. Then `EndsRun` holds with the exit status 0.
 pub ends_minimised : {In Out : Type 0} {asked : Request} {given : List ℕ} {source : Used In} {output : Used Out}
     {at : Counts} {sizes : Sizes} {Lost : Type 0} → Consumes source.before source.after given →
     MinimisesTo asked given source output at sizes →
@@ -87,8 +88,8 @@ ends_minimised took ran =
     (of_all _ _ _ _ took ran.exhausted.0 (ran.to, refl, refl)) ran.written
 
 module _ {Out : Type 0} (asked : Request) (law : NotBoth asked.bounds) (output : Used Out) where
-  -- The definition `EndsRun` lists the ways in which a run (a minimisation or a comparison) may end. If a run cannot
-  -- read a system from its input, it ends in one of these ways.
+  -- `EndsRun` states how a run (a minimisation or a comparison) ended. Suppose that no system could be read from an
+  -- input, and that the error `fault` is the reason. Then `EndsRun` holds with the exit status for `fault`.
   ends_unread : {contents : Contents} {Sound Lost : Type 0} (given : List ℕ) (revealed rest : Option (List ℕ))
       (failures : ℕ) (fault : Fault) →
       Consumes revealed rest given → output.new ≡ output.old → (failures ≡ 0 → Sound) → (failures ≡ 1 → Lost) →
@@ -102,8 +103,8 @@ module _ {Out : Type 0} (asked : Request) (law : NotBoth asked.bounds) (output :
   ends_unread given revealed rest failures fault took kept sound loses wrong (refused_memory zero memory header) =
       no_memory (sound zero) (ap status_of memory) kept
 
-  -- The definition `EndsRun` lists the ways in which a run (a minimisation or a comparison) may end. If a minimisation
-  -- fails, it ends in one of these ways.
+  -- `EndsRun` states how a run (a minimisation or a comparison) ended. Suppose that a minimisation failed with the
+  -- error `fault`, as `MinimisationFails` states. Then `EndsRun` holds with the exit status for `fault`.
   pub ends_run : {In : Type 0} {given : List ℕ} {source : Used In} {at : Counts} {fault : Fault} →
       Consumes source.before source.after given →
       (output.failures ≡ 0 → output.new ≡ output.old) → MinimisationFails asked given source output at fault →
@@ -118,8 +119,9 @@ module _ {Out : Type 0} (asked : Request) (law : NotBoth asked.bounds) (output :
 
   module _ {A B : Type 0} {first : List ℕ} {source : Used A} {other : Used B} {at : Counts}
       (took : Consumes source.before source.after first) where
-    -- The definition `EndsRun` lists the ways in which a run (a minimisation or a comparison) may end. If a comparison
-    -- writes its verdict (whether the systems are equivalent), it ends in one of these ways.
+    -- `EndsRun` states how a run (a minimisation or a comparison) ended. Suppose that a comparison succeeded, as
+    -- `ComparesTo` states. Then `EndsRun` holds. The exit status is 0 if the two systems are equivalent, and otherwise
+    -- 1.
     pub ends_verdict : {same : Bool} {status : ℕ} {Lost : Type 0} → status ≡ (if same then 0 else 1) →
         ComparesTo asked first (source, other) output at same →
         EndsRun asked (two source.before other.before) ((source.failures ≡ 0) × (other.failures ≡ 0)) Lost output status
@@ -131,8 +133,8 @@ module _ {Out : Type 0} (asked : Request) (law : NotBoth asked.bounds) (output :
         (got.both, same, did.verdict, refl, is)))
         did.written
 
-    -- The definition `EndsRun` lists the ways in which a run (a minimisation or a comparison) may end. If a comparison
-    -- fails, it ends in one of these ways.
+    -- `EndsRun` states how a run (a minimisation or a comparison) ended. Suppose that a comparison failed with the
+    -- error `fault`, as `ComparisonFails` states. Then `EndsRun` holds with the exit status for `fault.fault`.
     pub ends_cmp : {fault : CmpFault} (Unread : Type 0) → (fault.side ≡ First → Unread) →
         (output.failures ≡ 0 → output.new ≡ output.old) →
         ComparisonFails asked first (source, other) output at fault →
@@ -159,17 +161,18 @@ module _ {Out : Type 0} (asked : Request) (law : NotBoth asked.bounds) (output :
         (of_all other.before other.after got.second _ got.took got.exhausted.1.0
         (got.both, is.same, is.verdict, refl, refl))) is.written
 
--- The contract of the opener, which opens files by name, may state the contents of an input (`revealed`). Suppose that
--- the property P implies the property Q, and that P holds for the actual contents of the input. If the contract states
--- these contents, then Q holds for the stated contents. If the contract states no contents, then Q holds for some text.
+-- The contract of the opener (an object that opens files by their names) may state the contents of an input, which are
+-- then the list `revealed`. Suppose that the property P implies the property Q, and that P holds for the actual
+-- contents of the input. If the contract states the contents, then Q holds for the stated contents. Otherwise, Q holds
+-- for some text.
 of_told : (revealed text : Option (List ℕ)) {P Q : List ℕ → Type 0} → ((given : List ℕ) → P given → Q given) →
     IfSome revealed (λ bytes. text ≡ Some bytes) → OfText text P → OfText revealed Q
 of_told None text follows is (given, _, holds) = (given, tt, follows given holds)
 of_told (Some bytes) text follows is (given, same, holds) = (given, rw is at same, follows given holds)
 
 module _ (asked : Request) where
-  -- The contract of the opener, which opens files by name, may state the contents of the inputs. If `bytes` is the
-  -- correct output for the actual contents, then it is also the correct output for the stated contents.
+  -- The contract of the opener (an object that opens files by their names) may state the contents of the inputs. If
+  -- `bytes` is the correct output for the actual contents, then it is also the correct output for the stated contents.
   answer_told : (bytes : List ℕ) (status : ℕ) (revealed contents : Contents) → AreAsRevealed revealed contents →
       IsAnswer asked contents bytes status → IsAnswer asked revealed bytes status
   answer_told bytes status (one revealed) (one text) is answer = of_told revealed text (λ given h. h) is answer
@@ -178,8 +181,8 @@ module _ (asked : Request) where
   answer_told bytes status (one revealed) (two text other) is answer = absurd is
   answer_told bytes status (two revealed more) (one text) is answer = absurd is
 
-  -- The contract of the opener, which opens files by name, may state the contents of the inputs. If the line of
-  -- `--stats` is correct for the actual contents, then it is also correct for the stated contents.
+  -- The contract of the opener (an object that opens files by their names) may state the contents of the inputs. If the
+  -- line of `--stats` is correct for the actual contents, then it is also correct for the stated contents.
   pub shown_told : (old new : Option (List ℕ)) (revealed contents : Contents) → AreAsRevealed revealed contents →
       ShowsCountsOf asked contents old new → ShowsCountsOf asked revealed old new
   shown_told old new (one revealed) (one text) is shown = of_told revealed text (λ given h. h) is shown
@@ -187,8 +190,8 @@ module _ (asked : Request) where
   shown_told old new (one revealed) (two text other) is shown = absurd is
   shown_told old new (two revealed more) (one text) is shown = absurd is
 
-  -- The contract of the opener, which opens files by name, may state the contents of the inputs. If the actual contents
-  -- of an input are incorrect, then the stated contents are also incorrect.
+  -- The contract of the opener (an object that opens files by their names) may state the contents of the inputs. If the
+  -- actual contents of an input are incorrect, then the stated contents are also incorrect.
   fault_told : (revealed contents : Contents) → AreAsRevealed revealed contents → HasFaultyText asked.bounds contents →
       HasFaultyText asked.bounds revealed
   fault_told (one revealed) (one text) is wrong = told_then revealed text _ is wrong
@@ -198,16 +201,16 @@ module _ (asked : Request) where
   fault_told (one revealed) (two text other) is wrong = absurd is
   fault_told (two revealed more) (one text) is wrong = absurd is
 
--- `AreAsRevealed` relates the contents of an input that a contract states to the actual contents of the input. This
--- relation is reflexive: it relates any contents to themselves.
+-- `AreAsRevealed` compares the contents of an input that a contract states with the actual contents of the input. This
+-- lemma says that any contents agree with themselves in this comparison.
 pub told_itself : (revealed : Option (List ℕ)) → IfSome revealed (λ bytes. revealed ≡ Some bytes)
 told_itself None = tt
 told_itself (Some bytes) = refl
 
--- The definition `EndsRun` lists the ways in which a run (a minimisation or a comparison) may end. The contract of the
--- opener, which opens files by name, may state the contents of the inputs. Suppose that `EndsRun` holds for the actual
--- contents. Then `EndsRun` also holds for the stated contents. In addition, the conditions `Sound` (no read has failed)
--- and `Lost` (a read has failed) may be replaced by weaker conditions.
+-- `EndsRun` states how a run (a minimisation or a comparison) ended. The contract of the opener (an object that opens
+-- files by their names) may state the contents of the inputs. Suppose that `EndsRun` holds for the actual contents of
+-- the inputs. Then `EndsRun` also holds for the contents that the contract states. In addition, the conditions `Sound`
+-- (no read has failed) and `Lost` (a read has failed) may be replaced by conditions that follow from them.
 pub ends_told : {Out : Type 0} {asked : Request} {revealed contents : Contents} {Sound Lost Sound' Lost' : Type 0}
     {output : Used Out} {status : ℕ} → AreAsRevealed revealed contents →
     (Sound → Sound') → (Lost → Lost') → EndsRun asked contents Sound Lost output status →
@@ -221,28 +224,28 @@ ends_told {asked = asked} {revealed = revealed} is sound loses (cut_short zero e
     cut_short (sound zero) exit bytes wanted (answer_told asked _ _ revealed _ is answer) broken
 ends_told is sound loses (lost failed exit kept) = lost (loses failed) exit kept
 
--- `NotBothOfList` holds if there is no error (`FirstHideFault`) in a correct hide list (the labels to hide, one on each
--- line).
+-- `NotBothOfList` holds if a correct hide list, which is a file with the labels to hide, has no error
+-- (`FirstHideFault`).
 abbrev pub NotBothOfList : Type 0
 NotBothOfList = (text : List ℕ) (H : List (List ℕ)) (f : Fault) → HideReads text H → ¬ FirstHideFault text f
 
--- If there is an error (`FirstHideFault`) in the contents of a hide list (the labels to hide, one on each line), the
--- hide list is incorrect.
+-- If the contents of a hide list (a file with the labels to hide) have an error (`FirstHideFault`), then they cannot be
+-- read as a list of labels (`HideReads`).
 is_faulty_list : NotBothOfList → (fault : Fault) (revealed : Option (List ℕ)) →
     IfSome revealed (λ text. FirstHideFault text fault)
     → IfSome revealed (λ list. (H : List (List ℕ)) → ¬ HideReads list H)
 is_faulty_list law fault None first = tt
 is_faulty_list law fault (Some text) first = λ H reads. law text H fault reads first
 
--- If the contents of a hide list (the labels to hide) are incorrect, the exit status is 2.
+-- If the error `fault` is an error in the contents of a hide list (a file with the labels to hide), then the exit
+-- status for `fault` is 2.
 list_status : (fault : Fault) → IsHideFault fault → status_of fault ≡ 2
 list_status Device h = absurd h
 list_status Memory h = absurd h
 list_status _ h = refl
 
--- The definition `HideListFails` lists the ways in which reading a hide list (the labels to hide) may fail. If the
--- reader of a hide list returns an error, and the file of the list is then closed, then `HideListFails` holds for
--- reading and closing together.
+-- `HideListFails` states why a hide list (a file with the labels to hide) could not be read. Suppose that the reader of
+-- a hide list returned an error, and that the file was then closed. Then `HideListFails` holds for both calls together.
 pub list_unread : {F : Type 0} (files : FilesUsed F) (name : Name) (revealed : Option (List ℕ))
     {given : List ℕ} {rest : Option (List ℕ)} {failures : ℕ} {fault : Fault} →
     NotBothOfList → IfSome (files.holds files.old name) (λ bytes. revealed ≡ Some bytes) → Consumes revealed rest given

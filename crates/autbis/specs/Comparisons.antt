@@ -1,5 +1,6 @@
--- A comparison of two inputs: its verdict (whether the two systems are equivalent), and the possible reasons why there
--- is no verdict. A source is what an input is read from, and a sink is what the output is written to.
+-- These definitions describe the comparison of two inputs. They state when its verdict (whether the two systems are
+-- equivalent) is correct, and for which reasons a comparison may fail. A source is an object from which an input is
+-- read, and a sink is an object to which an output is written.
 use Rattle.std.specs.Prelude.{◌≡◌, ◌↔◌, ℕ, ◌+◌, ◌*◌, Bool, true, false, IsTrue, List, [], ◌∷◌, ◌++◌, length, codes}
 use Rattle.std.specs.Io.KnownBytes.{Consumes}
 use Rattle.theory.specs.System.{System, Hide}
@@ -16,37 +17,40 @@ use Rattle.autbis.specs.Runs.{BreaksOff, Gains, IsExhausted, IsReadable, Request
 use Rattle.autbis.specs.declared.compare.CmpFault.{CmpFault}
 use Rattle.autbis.specs.declared.compare.Side.TheVariants.{First, Second, Run}
 
--- `line_of` is the output line for a verdict (whether two systems are equivalent): `TRUE` or `FALSE`, followed by a
--- line feed.
+-- `line_of` is the line that is written for a verdict. The line is `TRUE` if the two systems are equivalent, and
+-- `FALSE` otherwise, followed by a line feed.
 abbrev pub line_of : Bool → List ℕ
 line_of true = codes "TRUE" ++ 10 ∷ []
 line_of false = codes "FALSE" ++ 10 ∷ []
 
--- `ReadBoth` holds if both inputs are correct. The systems `one` and `other` are the systems that these inputs
--- describe.
+-- `ReadBoth bounds first second` holds if `first` and `second` are correct inputs within the size limits `bounds`. The
+-- field `one` is the system that the input `first` describes, and `other` is the system that the input `second`
+-- describes.
 pub record ReadBoth (bounds : Bounds) (first second : List ℕ) : Type 0 where
   pub one : System
   pub other : System
   pub reads_first : Reads bounds first one
   pub reads_second : Reads bounds second other
 
--- `states_of` is the number of states of both systems together.
+-- `states_of` is the sum of the numbers of states of two systems.
 abbrev pub states_of : {bounds : Bounds} {first second : List ℕ} → ReadBoth bounds first second → ℕ
 states_of both = both.one.states + both.other.states
 
--- `transitions_of` is the number of transitions of both systems together.
+-- `transitions_of` is the sum of the numbers of transitions of two systems.
 abbrev pub transitions_of : {bounds : Bounds} {first second : List ℕ} → ReadBoth bounds first second → ℕ
 transitions_of both = length both.one.transitions + length both.other.transitions
 
--- `IsVerdict` holds if the verdict is correct: the verdict is true if and only if the two systems are equivalent after
--- the labels of the hide list (the labels to hide) have been hidden.
+-- `IsVerdict asked both same` holds if `same` is the correct verdict of a comparison. The verdict must be true if and
+-- only if the two systems are equivalent after the labels to hide have been hidden in both systems.
 abbrev pub IsVerdict : (asked : Request) {first second : List ℕ} → ReadBoth asked.bounds first second → Bool → Type 0
 IsVerdict asked both same =
     IsTrue same ↔ Equivalent asked.relation (Hide asked.hidden both.one) (Hide asked.hidden both.other)
 
--- `CountsUnion` holds if the meter has counted the rounds and the visits (reads of transitions) of a comparison of both
--- systems. The number of rounds must be the number of rounds in the refinement of the union of both systems. Each
--- round, and also the pass that builds the union, must have made one visit for each transition of both systems.
+-- `CountsUnion` holds if a meter has counted the rounds and the visits (reads of transitions) of a whole comparison of
+-- two systems. Let r be the number of rounds that the meter has counted, and let m be the number of transitions of both
+-- systems together. Three conditions must hold. First, the refinement of the union of both systems takes r rounds.
+-- Second, r is at most the number of states of both systems together. Third, the meter has counted exactly (r + 1) * m
+-- visits.
 pub record CountsUnion (asked : Request) {first second : List ℕ} (both : ReadBoth asked.bounds first second)
     (at : Counts) : Type 0 where
   pub turns : Turns asked.relation (union_of (Hide asked.hidden both.one) (Hide asked.hidden both.other)) at.rounds
@@ -54,9 +58,10 @@ pub record CountsUnion (asked : Request) {first second : List ℕ} (both : ReadB
       StaysWithin (states_of both) (transitions_of both) union_passes at
       ((at.rounds + union_passes) * transitions_of both)
 
--- `HasReadBoth` holds if both inputs have been read to their ends. In addition, the numbers of rounds and visits (reads
--- of transitions) that the meter has counted must not exceed the bounds for a whole comparison of the two systems. The
--- field `second` has the bytes of the second input.
+-- `HasReadBoth` holds under three conditions. First, both inputs have been read to their ends, and neither source (an
+-- object from which an input is read) has failed. Second, both inputs are correct. Third, the numbers of rounds and
+-- visits (reads of transitions) that the meter has counted are within the bounds for a comparison of the two systems.
+-- The list `first` has the bytes of the first input, and the field `second` has the bytes of the second input.
 pub record HasReadBoth {A B : Type 0} (bounds : Bounds) (first : List ℕ) (sources : Used A × Used B)
     (at : Counts) : Type 0 where
   pub second : List ℕ
@@ -65,8 +70,9 @@ pub record HasReadBoth {A B : Type 0} (bounds : Bounds) (first : List ℕ) (sour
   pub both : ReadBoth bounds first second
   pub keeps : StaysWithin (states_of both) (transitions_of both) union_passes at 0
 
--- `ComparesTo` holds if a comparison has succeeded. This requires that both inputs have been read, and that the line of
--- the verdict (`TRUE` or `FALSE`) has been written to the sink (what the output is written to). It also requires that
+-- `ComparesTo` holds if a comparison has succeeded with the verdict `same` (whether the systems are equivalent). Four
+-- conditions must hold. First, both inputs have been read. Second, the verdict is correct. Third, the line of the
+-- verdict (`TRUE` or `FALSE`) has been written to the sink, which is the object to which the output is written. Fourth,
 -- the meter has counted the rounds and the visits (reads of transitions) of the whole comparison.
 pub record ComparesTo {A B Out : Type 0} (asked : Request) (first : List ℕ) (sources : Used A × Used B)
     (sink : Used Out) (at : Counts) (same : Bool) : Type 0 where
@@ -75,16 +81,18 @@ pub record ComparesTo {A B Out : Type 0} (asked : Request) (first : List ℕ) (s
   pub written : Gains sink (line_of same)
   pub counts : CountsUnion asked got.both at
 
--- `FirstReadFails` holds if no system could be read from the first source (what the first input is read from), and the
--- second source has not failed.
+-- `FirstReadFails` holds if a comparison failed because no system could be read from the first source, which is the
+-- object from which the first input is read. The error `fault` must state the reason, and that the error occurred in
+-- the first input. The second source must not have failed.
 pub record FirstReadFails {A B : Type 0} (bounds : Bounds) (first : List ℕ) (sources : Used A × Used B)
     (fault : CmpFault) : Type 0 where
   pub side : fault.side ≡ First
   pub refused : Refuses bounds first sources.0.after sources.0.failures fault.fault
   pub second_sound : sources.1.failures ≡ 0
 
--- `SecondReadFails` holds if the first input was read to its end, but no system could be read from the second source
--- (what the second input is read from).
+-- `SecondReadFails` holds if a comparison failed because no system could be read from the second source, which is the
+-- object from which the second input is read. The error `fault` must state the reason, and that the error occurred in
+-- the second input. The first input must be correct, and must have been read to its end.
 pub record SecondReadFails {A B : Type 0} (bounds : Bounds) (first : List ℕ) (sources : Used A × Used B)
     (fault : CmpFault) : Type 0 where
   pub side : fault.side ≡ Second
@@ -94,8 +102,9 @@ pub record SecondReadFails {A B : Type 0} (bounds : Bounds) (first : List ℕ) (
   pub took : Consumes sources.1.before sources.1.after second
   pub refused : Refuses bounds second sources.1.after sources.1.failures fault.fault
 
--- `VerdictCutShort` holds if both inputs were read, and the sink (what the output is written to) failed after a prefix
--- of the line of the verdict (`TRUE` or `FALSE`) had been written.
+-- `VerdictCutShort` holds if both inputs were read, and the sink (the object to which the output is written) failed
+-- when the line of the verdict was written. This line is `TRUE` or `FALSE`. The bytes that were written to the sink
+-- must be a prefix of the line of the correct verdict.
 pub record VerdictCutShort {A B Out : Type 0} (asked : Request) (first : List ℕ) (sources : Used A × Used B)
     (sink : Used Out) (at : Counts) : Type 0 where
   pub got : HasReadBoth asked.bounds first sources at
@@ -103,9 +112,11 @@ pub record VerdictCutShort {A B Out : Type 0} (asked : Request) (first : List �
   pub verdict : IsVerdict asked got.both same
   pub written : BreaksOff sink (line_of same)
 
--- `ComparisonFails` states why a comparison failed. There are three reasons: one of the two inputs could not be read,
--- memory ran out after both inputs had been read, or the sink (what the output is written to) failed. The list `first`
--- has the bytes that were read from the first source (what the first input is read from).
+-- `ComparisonFails` states why a comparison failed. A source is an object from which an input is read, and the sink is
+-- the object to which the output is written. There are four possible reasons. First, no system could be read from the
+-- first source. Second, no system could be read from the second source. Third, memory ran out after both inputs had
+-- been read. Fourth, the sink failed when the verdict was written. The list `first` has the bytes that were read from
+-- the first source.
 pub data ComparisonFails {A B Out : Type 0} (asked : Request) (first : List ℕ) (sources : Used A × Used B)
     (sink : Used Out)
     (at : Counts) (fault : CmpFault) : Type 0 where

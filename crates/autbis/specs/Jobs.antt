@@ -1,5 +1,5 @@
--- A job is what the command line asks for. The definitions below state which files a job opens, what it does with them,
--- and how it ends. An opener opens files by their names.
+-- A job is the task that the command line asks for. The definitions below state which files and which parameters a job
+-- has, and how it ends. An opener is an object that opens files by their names.
 use Rattle.std.specs.Prelude.{◌≡◌, ◌≢◌, ◌⊎◌, ℕ, Bool, false, List, [], ◌∷◌, ◌++◌, Option, None, Some, IfSome, IsSomeAnd}
 use Rattle.std.specs.Prelude.{option_map, option_to_list, string_bytes}
 use Rattle.theory.specs.declared.relation.Relation.{Relation}
@@ -13,88 +13,96 @@ use Rattle.autbis.specs.Runs.{Request, Used, asks}
 use Rattle.arguments.specs.declared.arguments.Job.{Job}
 use Rattle.arguments.specs.declared.arguments.Job.TheVariants.{Min, Cmp}
 
--- `relation_of job` is the relation modulo which the job (what the command line asks for) minimises or compares.
+-- `relation_of job` is the relation modulo which the job (the task that the command line asks for) minimises or
+-- compares systems.
 abbrev pub relation_of : Job → Relation
 relation_of (Min relation stats hide file) = relation
 relation_of (Cmp relation hide first second) = relation
 
--- `shows_counts` is true if the job (what the command line asks for) writes the line of `--stats`. Only a minimisation
--- with the option `--stats` writes this line.
+-- `shows_counts job` is true if the job (the task that the command line asks for) writes the line of `--stats`. Only a
+-- minimisation with the option `--stats` writes this line.
 abbrev pub shows_counts : Job → Bool
 shows_counts (Min relation stats hide file) = stats
 shows_counts (Cmp relation hide first second) = false
 
--- `hide_of job` is the name of the hide list (the labels to hide) that the job (what the command line asks for) names.
--- It is `None` if the job names no hide list.
+-- `hide_of job` is the name of the hide list, which is a file with the labels to hide. It is `None` if the job (the
+-- task that the command line asks for) names no hide list.
 abbrev pub hide_of : Job → Option Name
 hide_of (Min relation stats hide file) = option_map string_bytes hide
 hide_of (Cmp relation hide first second) = option_map string_bytes hide
 
--- `texts_of job` returns the names of the input files of the job (what the command line asks for). If a minimisation
--- names no file, the list is empty and the minimisation reads standard input.
+-- `texts_of job` has the names of the input files of the job (the task that the command line asks for). The list is
+-- empty if the job is to minimise standard input.
 abbrev pub texts_of : Job → List Name
 texts_of (Min relation stats hide file) = option_to_list (option_map string_bytes file)
 texts_of (Cmp relation hide first second) = string_bytes first ∷ string_bytes second ∷ []
 
--- `files_of job` returns the names of all files of the job (what the command line asks for), in the order in which they
--- are opened: first the input files, and then the hide list (the labels to hide).
+-- `files_of job` has the names of all files of the job (the task that the command line asks for), in the order in which
+-- they are opened. The input files are opened first, and then the hide list, which is a file with the labels to hide.
 abbrev pub files_of : Job → List Name
 files_of job = texts_of job ++ option_to_list (hide_of job)
 
--- `request_of` combines the parameters of a job (what the command line asks for): the relation modulo which the job
--- minimises or compares, the limits on the sizes of input files, and the labels to hide.
+-- `request_of job hidden` has the parameters of the job (the task that the command line asks for). They are the
+-- relation modulo which the job minimises or compares systems, the limits on the sizes of input files, and the list
+-- `hidden`, which has the labels to hide.
 abbrev pub request_of : Job → List (List ℕ) → Request
 request_of job hidden = asks (relation_of job) file_bounds hidden
 
--- `HidesNamed` holds if H is the list of the labels in the hide list, which is a file with the labels to hide. If the
--- contract of the opener (which opens files by name) does not state the contents of this file, H can be any list. If
--- there is no hide list, H must be empty.
+-- `HidesNamed holds hide H` holds if the list H contains exactly the labels of the hide list, which is the file `hide`
+-- with the labels to hide. The function `holds` gives the contents of each file. If this function gives `None`, the
+-- contract of the opener (an object that opens files by their names) does not state the contents of the file, and H can
+-- be any list. If `hide` is `None`, there is no hide list, and H must be empty.
 abbrev pub HidesNamed : (Name → Option (List ℕ)) → Option Name → List (List ℕ) → Type 0
 HidesNamed holds None H = H ≡ []
 HidesNamed holds (Some name) H = IfSome (holds name) (λ list. HidesAs list H)
 
--- `revealed_of holds input job` returns the contents of the inputs of the job (what the command line asks for). The
--- inputs are the files of the job, or standard input if the job names no file. The contents of an input are `None` if
--- the contract of standard input, or of the opener (which opens files by name), does not state these contents.
+-- `revealed_of holds input job` has the contents of the inputs of the job (the task that the command line asks for).
+-- The inputs are the input files of the job, or standard input if the job names no input file. The function `holds`
+-- gives the contents of each file, and `input` has the contents of standard input. The contents of an input are `None`
+-- if no contract states them.
 abbrev pub revealed_of : (Name → Option (List ℕ)) → (input : Option (List ℕ)) → Job → Contents
 revealed_of holds input (Min relation stats hide None) = one input
 revealed_of holds input (Min relation stats hide (Some file)) = one (holds (string_bytes file))
 revealed_of holds input (Cmp relation hide first second)
     = two (holds (string_bytes first)) (holds (string_bytes second))
 
--- `HasFaultyList` holds if the command line names a hide list (the labels to hide) and this list is incorrect. If the
--- contract of the opener (which opens files by name) does not state the contents of the list, `HasFaultyList` holds
--- whether or not the list is correct.
+-- `HasFaultyList holds hide` holds if the hide list, which is the file `hide` with the labels to hide, is incorrect. If
+-- the contract of the opener (an object that opens files by their names) does not state the contents of this file,
+-- `HasFaultyList` holds whether or not the hide list is correct. If `hide` is `None`, there is no hide list, and
+-- `HasFaultyList` does not hold.
 abbrev pub HasFaultyList : (Name → Option (List ℕ)) → Option Name → Type 0
 HasFaultyList holds hide =
     IsSomeAnd hide (λ name. IfSome (holds name) (λ list. (H : List (List ℕ)) → ¬ HideReads list H))
 
--- `HideListFails` states why the hide list (the labels to hide) could not be read. There are three reasons: a read from
--- its file failed, or memory ran out, or the list is incorrect.
+-- `HideListFails` states why the hide list (the file with the labels to hide) could not be read, and which exit status
+-- the program has. There are three possible reasons. First, a read from the file failed, and the exit status is 5.
+-- Second, memory ran out, and the exit status is 4. Third, the hide list is incorrect, and the exit status is 2.
 pub data HideListFails {F : Type 0} (files : FilesUsed F) (hide : Option Name) (status : ℕ) : Type 0 where
   list_failed : hide ≢ None → files.lost files.new ≡ 1 → status ≡ 5 → HideListFails files hide status
   no_memory : HasLostNone files → status ≡ 4 → HideListFails files hide status
   list_faulty : HasLostNone files → HasFaultyList (files.holds files.old) hide → status ≡ 2 →
       HideListFails files hide status
 
--- `IsGivenUp` holds if the job (what the command line asks for) ended early. Either one of its files could not be
--- opened, or all files were opened and the hide list (the labels to hide) could not be read.
+-- `IsGivenUp` holds if a job (the task that the command line asks for) ended early. The first possible reason is that
+-- one of the files of the job could not be opened. The second possible reason is that the hide list (the file with the
+-- labels to hide) could not be read, although all files of the job were opened.
 abbrev pub IsGivenUp : {F : Type 0} → FilesUsed F → List Name → (hide : Option Name) → (status : ℕ) → Type 0
 IsGivenUp files names hide status = IsRefused files names status
     ⊎ (HasAll files names × HideListFails files hide status)
 
--- `NoTextFailed` holds if standard input has not failed and no file had failed when it was closed.
+-- `NoTextFailed` holds if standard input has not failed, and no file had failed when it was closed.
 abbrev pub NoTextFailed : {F In : Type 0} → FilesUsed F → Used In → Type 0
 NoTextFailed files input = (input.failures ≡ 0) × HasLostNone files
 
--- `TextFailed` holds if standard input has failed, or if the command line names input files and a file had failed when
--- it was closed.
+-- `TextFailed` holds in two cases. In the first case, standard input has failed. In the second case, the job (the task
+-- that the command line asks for) names input files, and a file had failed when it was closed.
 abbrev pub TextFailed : {F In : Type 0} → FilesUsed F → Used In → Job → Type 0
 TextFailed files input job = (input.failures ≡ 1) ⊎ ((texts_of job ≢ []) × (files.lost files.new ≡ 1))
 
--- `RunsJob` holds if a job (what the command line asks for) was run. This requires that all its files were opened, that
--- the labels `hidden` of its hide list (the labels to hide) were read, and that the minimisation or comparison of its
--- inputs ended as `EndsRun` states. It also requires that standard input was used only if the job names no input file.
+-- `RunsJob` holds if a job (the task that the command line asks for) was run to its end. Four conditions must hold.
+-- First, all files of the job were opened. Second, standard input is unchanged if the job names input files. Third, the
+-- field `hidden` has the labels of the hide list, which is a file with the labels to hide. Fourth, the minimisation or
+-- comparison of the inputs ended as `EndsRun` states.
 pub record RunsJob {F In Out : Type 0} (files : FilesUsed F) (input : Used In) (output : Used Out) (job : Job)
     (status : ℕ) : Type 0 where
   pub all : HasAll files (files_of job)
@@ -104,8 +112,9 @@ pub record RunsJob {F In Out : Type 0} (files : FilesUsed F) (input : Used In) (
   pub ends : EndsRun (request_of job hidden) (revealed_of (files.holds files.old) input.before job)
       (NoTextFailed files input) (TextFailed files input job) output status
 
--- `JobEnds` states how a job (what the command line asks for) ended. Either the job ended early, and standard input and
--- the sink (what the output is written to) are unchanged. Or the job was run.
+-- `JobEnds` states how a job (the task that the command line asks for) ended. There are two cases. In the first case,
+-- the job ended early, and neither standard input nor the sink (the object to which the output is written) has changed.
+-- In the second case, the minimisation or comparison was run, and ended as `RunsJob` states.
 pub data JobEnds {F In Out : Type 0} (files : FilesUsed F) (input : Used In) (output : Used Out) (job : Job)
     (status : ℕ) : Type 0 where
   given_up : IsGivenUp files (files_of job) (hide_of job) status → input.new ≡ input.old → output.new ≡ output.old →

@@ -1,4 +1,5 @@
--- The exit status of each error, and what is written to standard error about a minimisation or a comparison.
+-- The definitions below state the exit status for each error, and the line that the option `--stats` writes to standard
+-- error.
 use Rattle.std.specs.Prelude.{◌≡◌, ◌⊎◌, ℕ, ◌*◌, List, ◌++◌, length, codes, decimal, Option, string_bytes}
 use Rattle.std.specs.Io.KnownBytes.{Appends, Keeps}
 use Rattle.theory.specs.System.{System, Hide}
@@ -25,19 +26,20 @@ status_of Device = 5
 status_of Memory = 4
 status_of _ = 2
 
--- `IsWordStatus` states the exit status and the output of a command line that asks for help or for the version, that is
--- incorrect, or for which memory ran out. After a request for help or for the version, the exit status is 0 if the
--- whole text was written, and 5 if writing failed after a prefix of the text was written. In all other cases, nothing
--- is written to the output, and the exit status is 4 if memory ran out and 3 otherwise.
+-- `IsWordStatus old new fault status` states the exit status and the output of the program if the command line asks
+-- neither for a minimisation nor for a comparison. The error `fault` states why there is no such job. The lists `old`
+-- and `new` have the bytes of the output before and after the text is written. After a request for help or for the
+-- version, the exit status is 0 if the whole text was written, and 5 if writing failed after a prefix of the text. In
+-- all other cases, nothing is written to the output, and the exit status is 4 if memory ran out and 3 otherwise.
 abbrev pub IsWordStatus : (old new : Option (List ℕ)) → WordFault → ℕ → Type 0
 IsWordStatus old new (word.Help text) status =
     ((status ≡ 0) × Appends old new (string_bytes text)) ⊎ ((status ≡ 5) × AppendsPrefix old new (string_bytes text))
 IsWordStatus old new word.Memory status = (status ≡ 4) × Keeps old new
 IsWordStatus old new _ status = (status ≡ 3) × Keeps old new
 
--- `stats_line` is the line of `--stats`. The line has the size of the system and the numbers of rounds and visits
--- (reads of transitions) that the meter has counted. It also has the largest number of visits that is allowed for this
--- number of rounds.
+-- `stats_line` is the line that the option `--stats` writes. The line has the numbers of states and transitions of the
+-- system, and the numbers of rounds and visits (reads of transitions) that the meter has counted. The last number in
+-- the line is the largest number of visits that is allowed for this number of rounds.
 abbrev pub stats_line : Relation → Counts → meter.Counts → List ℕ
 stats_line rel sizes at = codes "stats: states " ++ decimal sizes.states
     ++ codes " transitions " ++ decimal sizes.transitions
@@ -45,8 +47,9 @@ stats_line rel sizes at = codes "stats: states " ++ decimal sizes.states
     ++ codes " allowance " ++ decimal (allowance rel sizes.states sizes.transitions at.rounds) ++ codes "\n"
 
 -- `ShowsCounts` holds if a prefix of the line of `--stats` was written to standard error. The line must contain the
--- size of the system that was read, the number of rounds of its refinement, and a number of visits (reads of
--- transitions) within the bounds for a minimisation with this number of rounds.
+-- size of the system that was read, and the number of rounds that the refinement of this system takes. It must also
+-- contain a number of visits (reads of transitions) that is within the bounds for a minimisation with this number of
+-- rounds.
 abbrev pub ShowsCounts : Request → (revealed old new : Option (List ℕ)) → Type 0
 ShowsCounts asked revealed old new = OfText revealed
     (λ text. (A : System) × Reads asked.bounds text A × (at : meter.Counts)

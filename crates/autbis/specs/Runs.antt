@@ -20,8 +20,9 @@ use Rattle.autfmt.specs.Stream.{AppendsPrefix}
 use Rattle.autfmt.specs.Written.{listed, transition_cmp}
 use Rattle.autbis.specs.declared.run.Counts.{Counts}
 
--- The parameters of a minimisation or a comparison: the relation modulo which systems are minimised or compared, the
--- largest numbers of states and transitions that are accepted (`bounds`), and the labels to hide.
+-- `Request` has the parameters of a minimisation or a comparison. The field `relation` is the relation modulo which
+-- systems are minimised or compared. The field `bounds` has the largest numbers of states and transitions that an input
+-- may have, and the field `hidden` has the labels to hide.
 pub record Request : Type 0 where
   pub relation : Relation
   pub bounds : Bounds
@@ -31,11 +32,12 @@ pub record Request : Type 0 where
 abbrev pub asks : Relation → Bounds → List (List ℕ) → Request
 asks rel bounds H = record { relation = rel; bounds = bounds; hidden = H }
 
--- The effect of a call on a source (what an input is read from) or a sink (what the output is written to). The fields
--- `old` and `new` are the source or sink before and after the call. For a source, the fields `before` and `after` are
--- the bytes that the source will still return. For a sink, `before` and `after` are the bytes that were written to the
--- sink. These two fields are `None` if the contract of the source or sink does not state the bytes. The field
--- `failures` is the number of failures of the source or sink.
+-- `Used` describes the effect of a call on a source or on a sink. A source is an object from which an input is read,
+-- and a sink is an object to which an output is written. The fields `old` and `new` are the source or sink before and
+-- after the call. For a source, the fields `before` and `after` are the bytes that remain to be read before and after
+-- the call. For a sink, `before` and `after` are the bytes that had been written to the sink before and after the call.
+-- These two fields are `None` if the contract of the source or sink does not state the bytes. The field `failures` is
+-- the number of failures of the source or sink after the call.
 pub record Used (T : Type 0) : Type 0 where
   pub old : T
   pub new : T
@@ -43,37 +45,41 @@ pub record Used (T : Type 0) : Type 0 where
   pub after : Option (List ℕ)
   pub failures : ℕ
 
--- `used` makes a `Used` record for a source (what an input is read from) or a sink (what the output is written to). The
--- function `tells` gives the bytes of the source or sink, and `failures` counts its failures.
+-- `used` makes a `Used` record, which describes the effect of a call on a source or on a sink. A source is an object
+-- from which an input is read, and a sink is an object to which an output is written. The function `tells` gives the
+-- bytes that remain to be read from a source, or the bytes that were written to a sink. The function `failures` gives
+-- the number of failures.
 abbrev pub used : {T : Type 0} → (T → Option (List ℕ)) → (T → ℕ) → (old new : T) → Used T
 used tells failures old new =
     record { old = old; new = new; before = tells old; after = tells new; failures = failures new }
 
--- `IsExhausted` holds if the source (what the input is read from) was read to its end and has not failed.
+-- `IsExhausted` holds if the source (the object from which the input is read) was read to its end and has not failed.
 abbrev pub IsExhausted : {T : Type 0} → Used T → Type 0
 IsExhausted source = IsAtEnd source.after × (source.failures ≡ 0)
 
--- `Gains` holds if exactly the bytes in the list `bytes` were written to the sink (what the output is written to), and
--- the sink has not failed.
+-- `Gains sink bytes` holds if exactly the bytes in the list `bytes` were written to the sink (the object to which the
+-- output is written), and the sink has not failed.
 abbrev pub Gains : {T : Type 0} → Used T → List ℕ → Type 0
 Gains sink bytes = Appends sink.before sink.after bytes × (sink.failures ≡ 0)
 
--- `BreaksOff` holds if the sink (what the output is written to) failed after a prefix of the list `bytes` had been
--- written.
+-- `BreaksOff sink bytes` holds if the sink (the object to which the output is written) failed after a prefix of the
+-- list `bytes` had been written.
 abbrev pub BreaksOff : {T : Type 0} → Used T → List ℕ → Type 0
 BreaksOff sink bytes = AppendsPrefix sink.before sink.after bytes × (sink.failures ≡ 1)
 
--- `Minimises` holds if Q is the quotient of A and has three further properties. Q is equivalent to A, no two different
--- states of Q are bisimilar, and no system that is equivalent to A has fewer states.
+-- `Minimises rel A Q` holds if the system Q is the quotient of the system A modulo the relation `rel`, and has three
+-- further properties. First, Q is equivalent to A. Second, no two different states of Q are bisimilar. Third, no system
+-- that is equivalent to A has fewer states than Q.
 pub record Minimises (rel : Relation) (A Q : System) : Type 0 where
   pub quotient : Quotient rel A Q
   pub equivalent : Equivalent rel A Q
   pub no_two_bisimilar : (s t : ℕ) → Bisimilar rel Q s Q t → s ≡ t
   pub smallest : (B : System) → IsSystem B → Equivalent rel A B → Q.states ≤ B.states
 
--- `MinimisedText` relates the text of an input to the minimised system. The text describes the system `input`. The
--- system `output` is the result of hiding labels in `input` and then minimising. The transitions of `output` are in the
--- order in which they are written, and reading the text that is written for `output` results in `output` again.
+-- `MinimisedText asked text` relates the input `text` to the minimised system. The field `input` is the system that the
+-- input describes. The field `output` is the result of hiding labels in this system and then minimising it. The
+-- transitions of `output` are in the order in which they are written. If the text that is written for `output` is read,
+-- the result is `output` again.
 pub record MinimisedText (asked : Request) (text : List ℕ) : Type 0 where
   pub input : System
   pub output : System
@@ -91,9 +97,9 @@ abbrev pub IsFaulty : Bounds → List ℕ → Type 0
 IsFaulty bounds text = (A : System) → ¬ Reads bounds text A
 
 -- `MinimisesTo` holds if a minimisation has read its input to the end and written the minimised system. Let m be the
--- number of transitions of the system, and let r be the number of rounds that the meter has counted. The definition
--- requires that the refinement takes r rounds, and that at least r * m and at most (r + 2) * m visits (counted reads of
--- transitions) have been made.
+-- number of transitions of the system that was read, and let r be the number of rounds that the meter has counted. The
+-- refinement of this system must take r rounds. The number of visits (counted reads of transitions) must be between r *
+-- m and (r + 2) * m. The argument `counts` must be the size of the system that was read.
 pub record MinimisesTo {In Out : Type 0} (asked : Request) (text : List ℕ) (source : Used In) (sink : Used Out)
     (at : meter.Counts) (counts : Counts) : Type 0 where
   pub to : MinimisedText asked text
@@ -103,8 +109,9 @@ pub record MinimisesTo {In Out : Type 0} (asked : Request) (text : List ℕ) (so
   pub keeps : StaysWithin counts.states counts.transitions quotient_passes at (at.rounds * counts.transitions)
   pub exhausted : IsExhausted source
 
--- `HasReadInput` holds if a minimisation has read its input to the end. In addition, the numbers of rounds and visits
--- (reads of transitions) that the meter has counted must not exceed the bounds for a whole minimisation of this system.
+-- `HasReadInput` holds under three conditions. First, a minimisation has read its input to the end. Second, the input
+-- is correct. Third, the numbers of rounds and visits (reads of transitions) that the meter has counted are within the
+-- bounds for a minimisation of the system that the input describes.
 pub record HasReadInput {T : Type 0} (bounds : Bounds) (text : List ℕ) (source : Used T) (at : meter.Counts) : Type 0
   where
     pub exhausted : IsExhausted source
@@ -112,9 +119,10 @@ pub record HasReadInput {T : Type 0} (bounds : Bounds) (text : List ℕ) (source
     pub read : Reads bounds text input
     pub keeps : StaysWithin input.states (length input.transitions) quotient_passes at 0
 
--- `MinimisationFails` states why a minimisation did not write the whole minimised system. There are three reasons: no
--- system could be read from the source (what the input is read from), memory ran out after a system had been read, or
--- the sink (what the output is written to) failed.
+-- `MinimisationFails` states why a minimisation failed. There are three possible reasons. First, no system could be
+-- read from the source, which is the object from which the input is read. Second, memory ran out after a system had
+-- been read. Third, the sink, which is the object to which the output is written, failed after a prefix of the output
+-- had been written.
 pub data MinimisationFails {In Out : Type 0} (asked : Request) (given : List ℕ) (source : Used In) (sink : Used Out)
     (at : meter.Counts) (fault : Fault) : Type 0 where
   not_read : Refuses asked.bounds given source.after source.failures fault → sink.failures ≡ 0 → IsFresh at →

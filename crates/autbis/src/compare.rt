@@ -1,4 +1,5 @@
-//! Compares two systems: the function `run_cmp` reads two inputs, and writes whether their systems are equivalent.
+//! Compares two systems. The function `run_cmp` reads two inputs, and writes whether the systems that they describe are
+//! equivalent.
 ghost use Rattle.std.specs.Prelude.{◌≡◌, IfErr, OnOk, OnErr};
 ghost use Rattle.std.specs.Io.KnownBytes.{Appends};
 ghost use Rattle.lts.specs.Meter.{IsFresh};
@@ -15,7 +16,8 @@ use lts::{Lts, Memory, Meter};
 use quotient::{Relation, equivalent};
 use std::alloc::Global;
 
-/// The part of a comparison in which an error occurred.
+/// The part of a comparison in which an error occurred: the reading of one of the two inputs, or the rest of the
+/// comparison.
 #[derive(Clone, Copy, Debug, PartialEq, Eq)]
 pub enum Side {
     /// The error occurred while the first input was read.
@@ -29,7 +31,7 @@ pub enum Side {
 /// The reason why a comparison failed.
 #[derive(Clone, Copy, Debug, PartialEq, Eq)]
 pub struct CmpFault {
-    /// The part in which the error occurred.
+    /// The part of the comparison in which the error occurred.
     pub side: Side,
     pub fault: Fault,
 }
@@ -46,19 +48,20 @@ impl From<Memory> for CmpFault {
 }
 
 /// Reads the first input to its end, and then the second input. In both systems, `run_cmp` replaces each label in the
-/// list `h` by the internal action `i`. Then it compares the two systems modulo `rel`, and writes `TRUE` or `FALSE` and
-/// a line feed to the sink `w` (what the output is written to). Finally it calls `w.finish` once. The result of
+/// list `h` by the internal action `i`. Then it compares the two systems modulo `rel`, and writes the line `TRUE` or
+/// `FALSE` to the sink `w` (the object to which the output is written). Finally it calls `w.finish` once. The result of
 /// `run_cmp` is the verdict, which is true if the systems are equivalent. The meter `m` counts rounds and visits (reads
 /// of transitions), and must not have counted anything before. If both systems together have n states and k
 /// transitions, `run_cmp` makes at most n rounds and exactly (rounds + 1) * k visits.
 ///
 /// # Errors
 ///
-/// - `Side::First` or `Side::Second`: no system could be read from the first input, or from the second input. The field
-///   `fault` has the reason, which is one of the errors that `run_min` may return. Nothing was written or counted.
-///   After an error in the first input, the source `b` (what the second input is read from) is unchanged.
+/// - `Side::First` or `Side::Second`: no system could be read from the first or from the second input. The field
+///   `fault` of the error has the reason, which is one of the errors that `run_min` may return. Nothing was written or
+///   counted. After an error in the first input, the source `b` (the object from which the second input is read) is
+///   unchanged.
 /// - `Side::Run` with `Memory`: an allocation failed, and nothing was written.
-/// - `Side::Run` with `Device`: the sink `w` failed, and a prefix of the line was written.
+/// - `Side::Run` with `Device`: the sink `w` failed, and a prefix of the line `TRUE` or `FALSE` was written.
 pub fn run_cmp<M: Meter, R1: Source, R2: Source, W: Sink>(
     alloc: Global,
     a: &mut R1,
@@ -97,7 +100,7 @@ pub fn run_cmp<M: Meter, R1: Source, R2: Source, W: Sink>(
     Ok(same)
 }
 
-/// Reads one input as a system.
+/// Reads a system from one of the two inputs. The argument `side` says which input this is.
 fn read_side<M: Meter, R: Source>(
     alloc: Global,
     r: &mut R,
@@ -117,8 +120,8 @@ fn read_side<M: Meter, R: Source>(
     }
 }
 
-/// Writes the line of the verdict (`TRUE` or `FALSE`) to the sink `w` (what the output is written to), and then calls
-/// `w.finish` once.
+/// Writes the line of the verdict (`TRUE` or `FALSE`) to the sink `w` (the object to which the output is written), and
+/// then calls `w.finish` once.
 fn write_verdict<W: Sink>(same: bool, w: &mut W) -> Result<(), CmpFault>
     requires { W.failures w.old ≡ 0 }
     ensures ok { OnOk result (Appends (W.written w.old) (W.written w.new) (line_of same)) }

@@ -24,20 +24,20 @@ const NOT_UTF8: &str = "autbis: command words are not UTF-8\n";
 /// The name that messages use for standard input.
 const INPUT: &str = "standard input";
 
-/// Does what the command line `words` asks for (the job), and returns the exit status. The first word of the command
-/// line is the name of the program. The opener `files` opens and closes all files. The exit statuses are:
+/// Does the job (the task) that the command line `words` asks for, and returns the exit status. The first word of the
+/// command line is the name of the program. The opener `files` opens and closes all files. The exit statuses are:
 ///
 /// - 0 after a success.
 /// - 1 after a comparison of two systems that are not equivalent.
-/// - 2 if an input or the hide list (the labels to hide) is incorrect.
+/// - 2 if an input or the hide list (the file with the labels to hide) is incorrect.
 /// - 3 if the command line is incorrect.
 /// - 4 if memory ran out.
 /// - 5 if a file cannot be opened, or a read or write failed.
 ///
-/// The help text is written to `output`. First the input files are opened. Then the hide list (the labels to hide) is
-/// opened and read, and finally the inputs are read. All files are closed at the end. If the command line names no
-/// input file, the system to minimise is read from `input`, the standard input. All error messages are written to `e`.
-/// If the exit status is 0 or 1, nothing is written to `e` except for the line of `--stats`.
+/// The result of the job, or the help text, is written to `output`. First the input files are opened. Then the hide
+/// list is opened and read, and finally the inputs are read. All files are closed at the end. If the command line names
+/// no input file, the system to minimise is read from `input`, the standard input. All error messages are written to
+/// `e`. If the exit status is 0 or 1, nothing is written to `e` except for the line of `--stats`.
 pub fn main_program<F: Opener, R: Source, W: Sink, E: Write>(
     alloc: Global,
     words: io::Result<Vec<String>>,
@@ -84,7 +84,7 @@ fn asked(alloc: Global, words: io::Result<Vec<String>>) -> Result<Job, WordFault
     }
 }
 
-/// Returns the relation modulo which the job (what the command line asks for) minimises or compares.
+/// Returns the relation modulo which the job (the task that the command line asks for) minimises or compares systems.
 fn relation_of(job: &Job) -> Relation
     ensures { result ≡ relation_of job.now }
 {
@@ -93,18 +93,18 @@ fn relation_of(job: &Job) -> Relation
     }
 }
 
-/// Returns whether the job (what the command line asks for) writes the line of `--stats`.
+/// Returns whether the job (the task that the command line asks for) writes the line of `--stats`.
 fn shows_counts(job: &Job) -> bool
     ensures { result ≡ shows_counts job.now }
 {
     matches!(job, Job::Min { stats: true, .. })
 }
 
-/// Minimises or compares the inputs of the job (what the command line asks for), and returns the exit status. The
-/// status is 0 after a success, 1 if the two systems are not equivalent, 2 if an input is incorrect, 4 if memory ran
-/// out, and 5 if a read or write failed. If the status is at most 4, no read from an input has failed. If the job names
-/// no input file, the system to minimise is read from `input`, the standard input. Error messages are written to `e`.
-/// If the status is 0 or 1, nothing is written to `e` except for the line of `--stats`.
+/// Minimises or compares the inputs of the job (the task that the command line asks for), and returns the exit status.
+/// The status is 0 after a success, 1 if the two systems are not equivalent, 2 if an input is incorrect, 4 if memory
+/// ran out, and 5 if a read or write failed. If the status is at most 4, no read from an input has failed. If the job
+/// names no input file, the system to minimise is read from `input`, the standard input. Error messages are written to
+/// `e`. If the status is 0 or 1, nothing is written to `e` except for the line of `--stats`.
 fn run_opened<S: Source, R: Source, W: Sink, E: Write>(
     alloc: Global,
     job: &Job,
@@ -139,8 +139,8 @@ fn run_opened<S: Source, R: Source, W: Sink, E: Write>(
     }
 }
 
-/// Returns the names that error messages use for the inputs of the job (what the command line asks for). If the job has
-/// only one input, both results are the name of this input.
+/// Returns the two names that error messages use for the inputs of the job (the task that the command line asks for).
+/// If the job has only one input, both names are the name of this input.
 fn names_of(job: &Job) -> (&str, &str) {
     match job {
         Job::Min { file: None, .. } => (INPUT, INPUT),

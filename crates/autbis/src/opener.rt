@@ -1,4 +1,5 @@
-//! Opens files by their names: a trait, and its implementation for the file system.
+//! An opener is an object that opens files by their names. This module has a trait for openers, and an opener for the
+//! files of the file system.
 ghost use Rattle.std.specs.Prelude.{◌≡◌, ◌≤◌, ◌+◌, ◌-◌, ℕ, List, [], ◌∷◌, None, Some, Option, IfSome, IfOk};
 ghost use Rattle.std.specs.Prelude.{MatchResult};
 ghost use Rattle.autbis.specs.Files.{Name, Opens};
@@ -8,23 +9,24 @@ use std::fs;
 use std::marker::Model;
 use std::rt::Files;
 
-/// Opens files by their names and closes them. Each file is read from its beginning. After a file could not be opened,
-/// no other file may be opened.
+/// An opener is an object that opens files by their names, and closes them. Each file is read from its beginning. After
+/// the opener could not open a file, it must not be asked to open another file.
 pub trait Opener {
     /// The type of an open file.
     type File: Source + Drop;
 
-    // The names of the files that this opener was asked to open so far. The value is `None` if the contract of the
+    // The names of all files that the opener was asked to open so far. The value is `None` if the contract of the
     // opener does not state these names.
     ghost opened: { Self → Option (List Name) };
 
-    // The value is 1 if a file could not be opened, and otherwise 0.
+    // The value is 1 if the opener could not open a file, and otherwise 0.
     ghost failures: { Self → ℕ };
 
     // The value is 1 if a file had failed when it was closed, and otherwise 0.
     ghost lost: { Self → ℕ };
 
-    // The number of open files. The value is always 0 if the opener does not count its open files.
+    // The number of files that the opener has opened and not closed. The value is always 0 if the opener does not count
+    // these files.
     ghost unclosed: { Self → ℕ };
 
     // The contents of the file with the given name. The value is `None` if the contract of the opener does not state
@@ -35,7 +37,7 @@ pub trait Opener {
     ///
     /// # Errors
     ///
-    /// `Broken` if the file cannot be opened. From then on, `failures` is 1.
+    /// `Broken` if the file cannot be opened. After this error, the value `failures` of the opener is 1.
     fn open(&mut self, name: &str) -> Result<Self::File, Broken>
         requires sound { failures self.old ≡ 0 }
         ensures unread { IfOk result (λ file. Self.File.failures file ≡ 0) }
@@ -48,7 +50,7 @@ pub trait Opener {
             (λ _. unclosed self.new ≤ unclosed self.old) }
         ensures others { (lost self.new ≡ lost self.old) × (holds self.new ≡ holds self.old) };
 
-    /// Closes a file, and records whether the file had failed.
+    /// Closes the file `file`. The value `lost` of the opener becomes 1 if the file has failed.
     fn close(&mut self, file: Self::File)
         ensures sound { Self.File.failures file ≡ 0 → lost self.new ≡ lost self.old }
         ensures lost { Self.File.failures file ≡ 1 → lost self.new ≡ 1 }
@@ -58,8 +60,8 @@ pub trait Opener {
             × (holds self.new ≡ holds self.old) };
 }
 
-/// Opens files of the file system. The contracts of this opener say nothing about the names and the contents of files.
-/// However, the contracts state whether a file could not be opened, and whether a read from a file failed.
+/// An opener for the files of the file system. Its contracts state neither which files were opened nor the contents of
+/// these files. However, the contracts state whether a file could not be opened, and whether a read from a file failed.
 #[derive(Drop)]
 pub struct Disk<'a, R> {
     files: &'a R,
@@ -76,7 +78,7 @@ impl<'a, R> Model for Disk<'a, R> {
 }
 
 impl<'a, R: Files> Disk<'a, R> {
-    /// Creates an opener that uses `files` to open files. No file has failed so far.
+    /// Creates an opener that uses `files` to open files. So far, every file could be opened, and no file has failed.
     pub fn new(files: &'a R) -> Disk<'a, R>
         ensures { result ≡ (0, 0) }
     {

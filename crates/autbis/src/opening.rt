@@ -1,5 +1,5 @@
-//! Opens the files of a job (what the command line asks for): first its inputs, and then its hide list (the labels to
-//! hide).
+//! Opens the files of a job (the task that the command line asks for). The input files are opened first, and then the
+//! hide list, which is a file with the labels to hide.
 ghost use Rattle.std.specs.Prelude.{◌≡◌, ◌≤◌, ◌+◌, ◌-◌, [], ◌∷◌, IfSome, IfOk, IfErr, OnOk, MatchResult, Some};
 ghost use Rattle.std.specs.Prelude.{option_map, option_to_list, string_bytes};
 ghost use Rattle.autbis.specs.Files.{HasAll, IsRefused, files_used};
@@ -13,39 +13,41 @@ use autfmt::{Hidden, read_hidden};
 use std::alloc::Global;
 use std::io::Write;
 
-/// The input files of a job (what the command line asks for), after they have been opened.
+/// The inputs of a job (the task that the command line asks for), after their files have been opened.
 #[derive(Drop)]
 pub enum Texts<File> {
-    /// The job is to minimise standard input.
+    /// The job is to minimise the system in standard input.
     Input,
-    /// The job is to minimise this file.
+    /// The job is to minimise the system in this file.
     One(File),
-    /// The job is to compare these two files.
+    /// The job is to compare the systems in these two files.
     Two(File, File),
 }
 
-/// The input files of a job (what the command line asks for) after they have been opened, and the labels of its hide
-/// list (the list of labels to hide).
+/// The inputs of a job (the task that the command line asks for) after their files have been opened, and the labels of
+/// the hide list, which is a file with the labels to hide.
 #[derive(Drop)]
 pub struct Opened<File> {
     pub texts: Texts<File>,
     pub hidden: Hidden,
 }
 
-/// The exit status of a job (what the command line asks for) that ended early. The reason has been reported to the
-/// user.
+/// The exit status of a job (the task that the command line asks for) that ended early. An error message has already
+/// been written.
 #[derive(Clone, Copy)]
 pub struct GivenUp {
     pub status: u8,
 }
 
-/// Opens the inputs of the job (what the command line asks for). Then it opens, reads and closes the hide list (the
-/// labels to hide). If a file cannot be opened, the function opens no other file.
+/// Opens the inputs of the job (the task that the command line asks for). Then it opens, reads and closes the hide
+/// list, which is a file with the labels to hide. After a file could not be opened, the function opens no other file.
+/// It writes error messages to `e`.
 ///
 /// # Errors
 ///
-/// The job ends early, and all files are closed. The exit status is 2 if the hide list is incorrect, 4 if memory ran
-/// out, and 5 if a file cannot be opened or read.
+/// The result is an error if the job ends early. In this case, all files have been closed. The exit status in the error
+/// is 2 if the hide list is incorrect, 4 if memory ran out, and 5 if a file cannot be opened or the hide list cannot be
+/// read.
 pub fn open_job<F: Opener, E: Write>(
     alloc: Global,
     job: &Job,
@@ -74,8 +76,8 @@ pub fn open_job<F: Opener, E: Write>(
     }
 }
 
-/// Opens the inputs of a job (what the command line asks for). If an input cannot be opened, the job ends early with
-/// the exit status 5, and the inputs that were opened are closed.
+/// Opens the inputs of a job (the task that the command line asks for). If an input cannot be opened, the job ends
+/// early with the exit status 5, and the inputs that have already been opened are closed.
 fn open_texts<F: Opener, E: Write>(
     job: &Job,
     files: &mut F,
@@ -113,7 +115,7 @@ fn open_texts<F: Opener, E: Write>(
 }
 
 /// Opens the file `name`. If the file cannot be opened, the function writes a message to `e` (the stream for error
-/// messages), and the program ends with the exit status 5.
+/// messages), and returns the exit status 5.
 fn open_named<F: Opener, E: Write>(files: &mut F, name: &str, e: &mut E) -> Result<F::File, GivenUp>
     requires sound { F.failures files.old ≡ 0 }
     ensures file { IfOk result (λ file. F.File.failures file ≡ 0) }
@@ -135,8 +137,9 @@ fn open_named<F: Opener, E: Write>(files: &mut F, name: &str, e: &mut E) -> Resu
     }
 }
 
-/// Opens, reads and closes the hide list (the labels to hide), and returns its labels. If the job names no hide list,
-/// the result is empty. The possible errors are the errors of `open_job`.
+/// Opens, reads and closes the hide list, which is the file `hide` with the labels to hide. The result has the labels
+/// of the hide list. If `hide` is `None`, there is no hide list, and the result is empty. The possible errors are the
+/// errors of `open_job`.
 fn hidden_of<F: Opener, E: Write>(
     alloc: Global,
     files: &mut F,
@@ -171,7 +174,7 @@ fn hidden_of<F: Opener, E: Write>(
     }
 }
 
-/// Closes the inputs of a job (what the command line asks for).
+/// Closes the input files of a job (the task that the command line asks for).
 pub fn close_texts<F: Opener>(files: &mut F, texts: Texts<F::File>)
     ensures sound { HaveNotFailed F.File.failures texts → F.lost files.new ≡ F.lost files.old }
     ensures lost { HasOneFailed F.File.failures texts → F.lost files.new ≡ 1 }

@@ -16,11 +16,12 @@ use quotient::Relation;
 use std::alloc::Global;
 use std::io::Write;
 
-/// Minimises the input `r`, writes the result to `w`, and returns the exit status. The status is 0 after a success, 2
-/// if the input is incorrect, 4 if memory ran out, and 5 if the source (what the input is read from) or the sink (what
-/// the output is written to) failed. If the status is 2 or 4, neither the source nor the sink has failed, and nothing
-/// was written. An error is passed to `report` with the name of the source. After a success, nothing is written to `e`
-/// (the stream for error messages) except for the line of `--stats`. This line is written only if `stats` is true.
+/// Minimises the system in the source `r`, writes the result to the sink `w`, and returns the exit status. The source
+/// is the object from which the input is read, and the sink is the object to which the output is written. The status is
+/// 0 after a success, 2 if the input is incorrect, 4 if memory ran out, and 5 if the source or the sink failed. If the
+/// status is 2 or 4, neither the source nor the sink has failed, and nothing was written to the sink. An error message
+/// is written to `e`, and may contain the name `name` of the source. After a success, nothing is written to `e` except
+/// for the line of `--stats`. This line is written only if `stats` is true.
 pub fn min_program<R: Source, W: Sink, E: Write>(
     alloc: Global,
     r: &mut R,
@@ -54,12 +55,13 @@ pub fn min_program<R: Source, W: Sink, E: Write>(
     }
 }
 
-/// Compares the inputs `a` and `b`, writes the line of the verdict (`TRUE` or `FALSE`) to `w`, and returns the exit
-/// status. The status is 0 if the two systems are equivalent, 1 if they are not, 2 if an input is incorrect, 4 if
-/// memory ran out, and 5 if a source (what an input is read from) or the sink (what the output is written to) failed.
-/// If the status is 2 or 4, no source has failed, the sink has not failed, and nothing was written. An error is passed
-/// to `report` with the name of the input in which it occurred. After a verdict, nothing is written to `e` (the stream
-/// for error messages). If the first input is incorrect or its source fails, the second source is unchanged.
+/// Compares the systems in the sources `a` and `b`, writes the line of the verdict (`TRUE` or `FALSE`) to the sink `w`,
+/// and returns the exit status. A source is an object from which an input is read, and the sink is the object to which
+/// the output is written. The status is 0 if the two systems are equivalent, 1 if they are not, 2 if an input is
+/// incorrect, 4 if memory ran out, and 5 if a source or the sink failed. If the status is 2 or 4, neither a source nor
+/// the sink has failed, and nothing was written to the sink. An error message is written to `e`, and may contain the
+/// name of the input in which the error occurred. After a verdict, nothing is written to `e`. If the first input is
+/// incorrect or its source fails, the second source is unchanged.
 pub fn cmp_program<R1: Source, R2: Source, W: Sink, E: Write>(
     alloc: Global,
     a: &mut R1,
@@ -91,8 +93,9 @@ pub fn cmp_program<R1: Source, R2: Source, W: Sink, E: Write>(
     }
 }
 
-/// Returns the name of the input in which an error occurred. For `Side::Run`, the contract does not say which name is
-/// returned, because the message for this error names no input.
+/// Returns the name of the input in which an error occurred. If `side` is `Side::Run`, the error occurred after both
+/// inputs had been read. In this case, the contract does not say which name is returned, because the error message
+/// contains no name.
 fn named<'a>(side: Side, a_name: &'a str, b_name: &'a str) -> &'a str
     ensures first { side ≡ First → result.now ≡ a_name.now }
     ensures second { side ≡ Second → result.now ≡ b_name.now }

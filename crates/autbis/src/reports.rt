@@ -1,4 +1,4 @@
-//! Reports errors: the message and the exit status of each error.
+//! Reports errors: writes the error message, and returns the exit status, for each error.
 ghost use Rattle.std.specs.Prelude.{◌≡◌, ◌≤◌, IsTrue, OnOk, OnErr};
 ghost use Rattle.std.specs.Io.KnownBytes.{Appends};
 ghost use Rattle.autfmt.specs.Stream.{AppendsPrefix, CountsFailure};
@@ -10,8 +10,9 @@ use arguments::WordFault;
 use autfmt::{Broken, Fault, Sink, put_all};
 use std::io::Write;
 
-/// Writes a message about the error to `e`, and returns the exit status of the error: 5 for `Device`, 4 for `Memory`,
-/// and 2 otherwise. If the contents of a file are incorrect, the message begins with `name`, the name of this file.
+/// Writes a message about the error `f` to `e`, and returns the exit status of this error: 5 for `Device`, 4 for
+/// `Memory`, and 2 otherwise. If the contents of a file are incorrect, the message contains the name `name` of this
+/// file.
 pub fn report<E: Write>(f: &Fault, name: &str, e: &mut E) -> u8
     ensures status { result ≡ status_of f.now }
 {
@@ -41,9 +42,10 @@ pub fn cannot_open<E: Write>(name: &str, e: &mut E) -> u8
     5
 }
 
-/// Writes to `e` why the command line is incorrect, and returns the exit status. The status is 3 for an incorrect
-/// argument or an unknown relation, and 4 if memory ran out. If the command line asks for help, the function writes the
-/// help text to `o` instead and flushes `o`. In this case, the status is 0, or 5 if the text cannot be written.
+/// Writes to `e` why the command line does not lead to a job, and returns the exit status. The status is 3 if an
+/// argument is incorrect or the relation is unknown, and 4 if memory ran out. If the command line asks for help or for
+/// the version, the function writes the requested text to `o` and flushes `o`. In this case, the status is 0 if the
+/// text was written. If the text cannot be written, the status is 5, and an error message is written to `e`.
 pub fn report_words<O: Write, E: Write>(f: &WordFault, o: &mut O, e: &mut E) -> u8
     ensures status { IsWordStatus (O.contents o.old) (O.contents o.new) f.now result }
     ensures silent { result ≤ 1 → e.new ≡ e.old }
@@ -62,8 +64,8 @@ pub fn report_words<O: Write, E: Write>(f: &WordFault, o: &mut O, e: &mut E) -> 
     }
 }
 
-/// Does the same as `report_words`, except that it writes the help text to the sink `w` (what the output is written to)
-/// and then calls `w.finish` once.
+/// Does the same as `report_words`, except that the text for help or for the version is written to the sink `w` (the
+/// object to which the output is written). After the text has been written, the function calls `w.finish` once.
 pub fn answer_words<W: Sink, E: Write>(f: &WordFault, w: &mut W, e: &mut E) -> u8
     requires { W.failures w.old ≡ 0 }
     ensures ends { EndsWords (used W.written W.failures w.old w.new) f.now result }
@@ -114,11 +116,11 @@ pub fn say<E: Write>(b: &[u8], e: &mut E) -> bool
     true
 }
 
-/// Writes all bytes of `b` to the sink `w` (what the output is written to), and then calls `w.finish` once.
+/// Writes all bytes of `b` to the sink `w` (the object to which the output is written), and then calls `w.finish` once.
 ///
 /// # Errors
 ///
-/// `Broken` if the sink fails. In this case, a prefix of `b` was written.
+/// `Broken` if the sink failed. In this case, a prefix of `b` was written.
 pub fn put_whole<W: Sink>(b: &[u8], w: &mut W) -> Result<(), Broken>
     requires { W.failures w.old ≡ 0 }
     ensures ok { OnOk result (Appends (W.written w.old) (W.written w.new) b.now) }

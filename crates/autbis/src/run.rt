@@ -12,18 +12,18 @@ use std::alloc::Global;
 /// The size of a system that was read: the numbers of states and transitions in its header.
 #[derive(Clone, Copy, Debug, PartialEq, Eq)]
 pub struct Counts {
-    /// The number of states, which is 1 to 1,000,000.
+    /// The number of states, which is at least 1 and at most 1,000,000.
     pub states: u32,
-    /// The number of transitions, which is 0 to 10,000,000. Each repetition of a transition is counted too.
+    /// The number of transitions, which is at most 10,000,000. If a transition is repeated, each repetition is counted.
     pub transitions: u32,
 }
 
-/// Reads the input from the source `r` as a system, and replaces each label in the list `h` by the internal action `i`.
-/// Then it minimises the system modulo `rel`, and writes the quotient to the sink `w` (what the output is written to).
-/// The result of `run_min` is the size of the system that was read. The limits `lim` bound the numbers of states and
-/// transitions that the header may declare. The meter `m` counts rounds and visits (reads of transitions), and must not
-/// have counted anything before. If the system has n states and m transitions, `run_min` makes at most n rounds and at
-/// most (rounds + 2) * m visits.
+/// Reads a system from the source `r` (the object from which the input is read), and replaces each label in the list
+/// `h` by the internal action `i`. Then it minimises the system modulo `rel`, and writes the quotient to the sink `w`
+/// (the object to which the output is written). The result of `run_min` is the size of the system that was read. The
+/// limits `lim` bound the numbers of states and transitions that the header may declare. The meter `m` counts rounds
+/// and visits (reads of transitions), and must not have counted anything before. If the system has n states and m
+/// transitions, `run_min` makes at most n rounds and at most (rounds + 2) * m visits.
 ///
 /// # Errors
 ///

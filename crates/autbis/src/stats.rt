@@ -14,13 +14,14 @@ use lts::Meter;
 use quotient::Relation;
 use std::io::Write;
 
-/// The space in bytes that one number with its name needs: a name of at most 16 bytes, and at most 40 digits.
+/// The number of bytes that are reserved for a number with its name: at most 16 bytes for the name, and at most 40
+/// digits.
 const COUNT: usize = 56;
 
-/// The space in bytes that the line needs: five numbers with their names, and a line feed.
+/// The number of bytes that are reserved for the line: five numbers with their names, and a line feed.
 const LINE: usize = 281;
 
-/// Writes the line of `--stats` to `e` (the stream for error messages). If a write fails, the failure is ignored.
+/// Writes the line of `--stats` to `e` (the stream for error messages). Failed writes are ignored.
 pub fn show_stats<M: Meter, E: Write>(counts: Counts, rel: Relation, m: &M, e: &mut E)
     requires { (M.counted m.now).rounds ≤ counts.states }
     ensures line { AppendsPrefix (E.contents e.old) (E.contents e.new)
@@ -59,8 +60,8 @@ fn spell_stats(
     append(buffer, end, b"\n")
 }
 
-/// Writes a word and a number into the buffer, from the index `end` on. Returns the index after the last digit of the
-/// number.
+/// Writes the bytes `word` and then the digits of the number `count` into the buffer, from the index `end` on. Returns
+/// the index after the last digit.
 fn append_count(buffer: &mut [u8], end: usize, word: &[u8], count: u128) -> usize
     requires word { length word.now ≤ 16 }
     requires room { end + COUNT ≤ length buffer.old }
@@ -72,7 +73,8 @@ fn append_count(buffer: &mut [u8], end: usize, word: &[u8], count: u128) -> usiz
     append(buffer, end, digits.format(count).as_bytes())
 }
 
-/// Returns the largest number of visits (reads of transitions) that a minimisation with `rounds` rounds may make.
+/// Returns the largest number of visits (reads of transitions) that a minimisation with `rounds` rounds may make. The
+/// argument `counts` is the size of the system.
 fn allowed_visits(counts: Counts, rel: Relation, rounds: u128) -> u128
     requires { rounds ≤ counts.states }
     ensures { result ≡ allowance rel counts.states counts.transitions rounds }

@@ -61,7 +61,7 @@ Spaced-from token tokens line rest e s =
 -- ---- Bytes after a token
 
 -- `Stops p bytes` holds if the list `bytes` is empty, or if p returns false for its first byte. The function p tests
--- whether a byte belongs to a token. So a token in front of `bytes` ends where `bytes` begins.
+-- whether a byte belongs to a token. So if `bytes` follow a token, this token ends where `bytes` begin.
 abbrev pub Stops : (ℕ → Bool) → List ℕ → Type 0
 Stops p [] = Unit {0}
 Stops p (b ∷ bs) = p b ≡ false

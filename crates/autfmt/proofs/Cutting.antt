@@ -12,14 +12,14 @@ use Rattle.autfmt.specs.Cutter.{with_line_feeds}
 abbrev pub IsNoFeed : ℕ → Type 0
 IsNoFeed b = b ≢ 10
 
--- Bytes that contain a line feed are not a single line.
+-- If a list of bytes contains a line feed, then the list is not a single line (`IsOneLine`).
 pub no_feed_inside : (line more rest : List ℕ) → IsOneLine rest → rest ≡ line ++ 10 ∷ more → ⊥
 no_feed_inside [] more (b ∷ rest) one e = All-head IsNoFeed b rest one (cc)
 no_feed_inside (c ∷ line) more (b ∷ rest) one e = no_feed_inside line more rest (All-tail IsNoFeed b rest one) (cc)
 no_feed_inside line more rest one e = cc
 
--- If two texts are equal, and each of them consists of a line, a line feed and further bytes, then the two lines are
--- equal and the bytes after them are equal.
+-- Suppose that two equal texts each consist of a line, a line feed and further bytes. Then the lines of both texts are
+-- equal, and the further bytes are equal.
 pub first_feed : (line line' more more' : List ℕ) → IsOneLine line → IsOneLine line' →
     line ++ 10 ∷ more ≡ line' ++ 10 ∷ more' → (line ≡ line') × (more ≡ more')
 first_feed [] [] more more' one one' e = (refl, cc)
@@ -28,8 +28,8 @@ first_feed (b ∷ line) (c ∷ line') more more' one one' e =
     (let p = same.0 in cc, same.1)
 first_feed line line' more more' one one' e = grind (arith, All-head)
 
--- If two texts are equal, and each of them consists of lines with line feeds and a rest without a line feed, then the
--- two lists of lines are equal and the two rests are equal.
+-- Suppose that two equal texts each consist of lines with line feeds and a rest without a line feed. Then both texts
+-- consist of the same lines and the same rest.
 pub same_cut : (ended ended' : List (List ℕ)) (rest rest' : List ℕ) →
     All IsOneLine ended → All IsOneLine ended' → IsOneLine rest → IsOneLine rest' →
     with_line_feeds ended ++ rest ≡ with_line_feeds ended' ++ rest' → (ended ≡ ended') × (rest ≡ rest')
@@ -45,7 +45,7 @@ same_cut (l ∷ ls) (l' ∷ ls') rest rest' lines lines' one one' e =
     same_cut ls ls' rest rest' (All-tail IsOneLine l ls lines) (All-tail IsOneLine l' ls' lines') one one' h in
     (cc, r)
 
--- There is at most one way to cut a text at its line feeds.
+-- There is at most one way to divide a text into lines with their line feeds and a rest without a line feed.
 pub Cuts-unique : (text : List ℕ) (e e' : List (List ℕ)) (r r' : List ℕ) →
     Cuts text e r → Cuts text e' r' → (e ≡ e') × (r ≡ r')
 Cuts-unique text e e' r r' c d = same_cut e e' r r' c.lines d.lines c.one d.one (sym c.whole ∙ d.whole)
@@ -55,8 +55,9 @@ pub Lines-unique : (text : List ℕ) (lines lines' : List (List ℕ)) → Lines 
     Lines text lines' → lines ≡ lines'
 Lines-unique text lines lines' (e, r, c, is) (e', r', d, is') = let (p, q) = Cuts-unique text e e' r r' c d in cc
 
--- Suppose that a text is cut at its line feeds into lines and a rest. If further lines with their line feeds are put in
--- front of the text, then the result is cut into the further lines, the lines of the text, and the same rest.
+-- Suppose that a text is divided into lines with their line feeds and a rest. If further lines with their line feeds
+-- are put in front of the text, then the result is divided into the further lines, the lines of the text, and the same
+-- rest.
 pub Cuts-behind : (front : List (List ℕ)) (more : List ℕ) (e : List (List ℕ)) (r : List ℕ) →
     All IsOneLine front → Cuts more e r → Cuts (with_line_feeds front ++ more) (front ++ e) r
 Cuts-behind front more e r one c = record {
@@ -65,8 +66,8 @@ Cuts-behind front more e r one c = record {
   one = c.one;
 }
 
--- If bytes without a line feed are put in front of a text that contains a line feed, then the first line of the result
--- is these bytes, followed by the first line of the text.
+-- Suppose that bytes without a line feed are put in front of a text that contains a line feed. Then the first line of
+-- the result consists of these bytes and the first line of the text. The other lines and the rest stay the same.
 pub Cuts-joined : (front more : List ℕ) (line : List ℕ) (e : List (List ℕ)) (r : List ℕ) →
     IsOneLine front → Cuts more (line ∷ e) r → Cuts (front ++ more) ((front ++ line) ∷ e) r
 Cuts-joined front more line e r one c = record {
@@ -86,11 +87,11 @@ Cuts-joined_rest front more r one c = record {
   one = All-append IsNoFeed front r one c.one;
 }
 
--- The empty text is cut into no lines and an empty rest.
+-- The empty text is divided into no lines and an empty rest.
 pub Cuts-nil : Cuts [] [] []
 Cuts-nil = record { whole = refl; lines = All-nil IsOneLine; one = All-nil IsNoFeed }
 
--- Every text can be cut at its line feeds.
+-- Every text can be divided into lines with their line feeds and a rest without a line feed.
 pub cut : (text : List ℕ) → (ended : List (List ℕ)) × (rest : List ℕ) × Cuts text ended rest
 cut [] = ([], [], Cuts-nil)
 cut (b ∷ text) = step (cases_eq b 10) (cut text).0 (cut text).1 (cut text).2
@@ -123,8 +124,9 @@ Lines-nil = ([], [], Cuts-nil, refl)
 pub Lines-one : (line : List ℕ) → IsOneLine line → 1 ≤ length line → Lines line (line ∷ [])
 Lines-one line one some = grind arith
 
--- If bytes without a line feed are appended to a text, then the last line of the result consists of the bytes after the
--- last line feed of the text, followed by the appended bytes.
+-- Suppose that a text is divided into lines with their line feeds and a rest without a line feed. If at least one byte
+-- is appended to the text, and no appended byte is a line feed, then the last line of the result consists of the rest
+-- and the appended bytes. The lines before it stay the same.
 pub Lines-longer :
     (given : List ℕ) (ended : List (List ℕ)) (rest more : List ℕ) → Cuts given ended rest → IsOneLine more →
     1 ≤ length more → Lines (given ++ more) (ended ++ (rest ++ more) ∷ [])
@@ -133,8 +135,8 @@ Lines-longer given ended rest more c one some =
     let l = Lines-one (rest ++ more) (All-append IsNoFeed rest more c.one one) (omega arith) in
     rw (c.whole, append_assoc) (Lines-behind ended (rest ++ more) ((rest ++ more) ∷ []) c.lines l)
 
--- If a text begins with bytes that contain no line feed, and there is at least one such byte, then the first line of
--- the text begins with these bytes.
+-- Suppose that a text begins with at least one byte, and that the bytes at its beginning contain no line feed. Then the
+-- first line of the text begins with these bytes.
 pub first_begins : (front more : List ℕ) → IsOneLine front → 1 ≤ length front →
     (tail : List ℕ) × (others : List (List ℕ)) × Lines (front ++ more) ((front ++ tail) ∷ others)
 first_begins front more one some = step (cut more).0 (cut more).1 (cut more).2

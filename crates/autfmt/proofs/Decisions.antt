@@ -1,6 +1,6 @@
--- It is decidable whether a line is a header, a transition, or a line of a hide list (the labels to hide). Each line
--- can be read in at most one way as a header, in at most one way as a transition, and in at most one way as a line of a
--- hide list.
+-- It is decidable whether a line is a header, a transition, or a line of a hide list, which is a file with the labels
+-- to hide. Each line can be read in at most one way as a header, in at most one way as a transition, and in at most one
+-- way as a line of a hide list.
 use Rattle.std.proofs.Common.{◌≡◌, ◌⊎◌, ℕ, List, [], ◌∷◌, ◌++◌, Option, Some, None, refl, sym, ap, ◌∙◌, inl, inr, rules}
 use Rattle.std.proofs.Common.{arith}
 use Rattle.std.specs.Prelude.{codes, IfSome, IfNone}
@@ -34,8 +34,8 @@ none_from view r read P e h = grind arith
 
 -- ---- It is decidable whether a line is a header, a transition, or a line of a hide list
 
--- Let `read` be the result of reading a line. Assume that, for each value y, `read` is `Some y` if and only if y has
--- the property P. Then it is decidable whether some value has the property P.
+-- Let `read` be the result of reading a line, and let P be a property of values. Suppose that `read` is `Some y` if and
+-- only if the value y has the property P. Then it is decidable whether some value has the property P.
 decided : {Y : Type 0} (read : Option Y) (P : Y → Type 0) → ((y : Y) → read ≡ Some y → P y) →
     ((y : Y) → P y → read ≡ Some y) → ((y : Y) × P y) ⊎ ((y : Y) → ¬ P y)
 decided (Some y) P takes again = inl (y, takes y refl)
@@ -53,8 +53,8 @@ decide_transition line =
 pub decide_hide_line : (line : List ℕ) → ((a : List ℕ) × HideLine line a) ⊎ ((a : List ℕ) → ¬ HideLine line a)
 decide_hide_line line = decided (hide_line_at line) _ (hide_line_at-takes line) (hide_line_at-again line)
 
--- Let `read` be the result of reading a line. Assume that, if `read` is `Some y`, then the value y has the property P.
--- If no value has the property P, then `read` is None.
+-- Let `read` be the result of reading a line, and let P be a property of values. Suppose that the value y has the
+-- property P whenever `read` is `Some y`. If no value has the property P, then `read` is `None`.
 pub unread : {Y : Type 0} (read : Option Y) (P : Y → Type 0) → ((y : Y) → read ≡ Some y → P y) →
     ((y : Y) → ¬ P y) → read ≡ None
 unread None P takes none = refl

@@ -1,4 +1,5 @@
--- Every input either can be read as exactly one system, or is incorrect, and then exactly one error is its first error.
+-- Every input denotes exactly one system, or has exactly one first error, which is the error that is reported. No input
+-- does both.
 use Rattle.std.proofs.Common.{◌≡◌, ◌⊎◌, ⊎_elim, ℕ, ◌+◌, ◌≤◌, List, [], ◌∷◌, ◌++◌, length, refl, sym, ◌∙◌, subst, inl}
 use Rattle.std.proofs.Common.{inr, arith, All, rules}
 use Rattle.std.specs.List.{AllZip}
@@ -19,8 +20,8 @@ use Rattle.autfmt.proofs.FirstFaults.{Stops, Divided, divided, one_front}
 use Rattle.autfmt.proofs.LineFaults.{HeaderFault-unique, GoodHeader-no_fault, GoodHeader-unique, header_judged}
 use Rattle.autfmt.proofs.LineFaults.{EdgeFault-unique, GoodEdge-no_fault, edge_judged, same_header}
 
--- If lines denote transitions, and the sources and targets of these transitions are less than n, then the lines denote
--- transitions of a system with n states.
+-- Suppose that each line in a list denotes a transition, and that the sources and targets of all these transitions are
+-- less than n. Then these lines denote transitions of a system with n states.
 pub spelled_among :
     (n : ℕ) (lines : List (List ℕ)) (es : List Transition) → AllZip SpellsTransition lines es → All (IsAmong n) es →
     AllZip (SpellsAmong n) lines es
@@ -37,8 +38,8 @@ among_spelled n (line ∷ lines) (e ∷ es) good =
     ((good.0.0, others.0), All-cons (IsAmong n) e es good.0.1 others.1)
 among_spelled n lines es good = absurd good
 
--- Suppose that the list `others` contains the lines that follow the correct transitions, and that `fault` is the error
--- that comes next (`NextFault`). Then reading stops before these lines.
+-- Suppose that an input begins with correct transitions, that the list `others` has the lines after them, and that
+-- `fault` is the error that comes next (`NextFault`). Then reading stops before the lines in `others`.
 next_stops : (m n found : ℕ) (others : List (List ℕ)) (fault : Fault) → NextFault m n found others fault →
     (found ≤ m) × Stops (SpellsAmong n) m found others
 next_stops m n found [] fault h = let less = h.0 in (omega arith, tt)
@@ -53,8 +54,8 @@ NextFault-unique m n found (line ∷ others) f g (inl a) (inr b) = let x = a.0 i
 NextFault-unique m n found (line ∷ others) f g (inr a) b = grind arith
 
 -- `FaultBehind m n lines es others fault` holds if the lines in the list `lines` denote the transitions es, and `fault`
--- is the error that comes after these lines. Either `fault` is the error of the first line in the list `others`, or
--- `fault` says that transitions are missing.
+-- is the error after these lines. Either `fault` is the error of the first line in the list `others`, or `fault` says
+-- that transitions are missing.
 abbrev pub FaultBehind : ℕ → ℕ → List (List ℕ) → List Transition → List (List ℕ) → Fault → Type 0
 FaultBehind m n lines es others fault = AllZip (SpellsAmong n) lines es × NextFault m n (length es) others fault
 
@@ -68,9 +69,12 @@ behind_unique m n lines lines' others others' es es' f g e a b =
     (omega arith) (omega arith) p.0 q.0 p.1 q.1 in
     grind (arith, NextFault-unique)
 
--- `FaultOf bounds fault lines` holds if `fault` is the first error of an input that consists of these lines. There are
--- three cases: there is no line, the header has the error, or the error comes after a correct header and correct
--- transitions.
+-- `FaultOf bounds fault lines` holds if `fault` is the first error of an input that consists of the lines `lines`.
+-- There are three cases:
+--
+-- - The input has no line.
+-- - The header has the error.
+-- - The header and a number of transitions are correct, and the error comes after them.
 abbrev FaultOf : Bounds → Fault → List (List ℕ) → Type 0
 FaultOf bounds fault [] = fault ≡ BadHeader
 FaultOf bounds fault (line ∷ all) =
@@ -87,7 +91,7 @@ fault_of bounds text fault lines l (behind m n es others b next) =
     subst (FaultOf bounds fault) (Lines-unique text (b.header ∷ b.lines ++ others) lines b.whole l)
     (inr (b.first, m, n, b.good, b.lines, others, es, refl, (b.spelled, next)))
 
--- At most one error is the first error of an input (`FirstFault`).
+-- An input has at most one first error (`FirstFault`).
 pub FirstFault-unique :
     (bounds : Bounds) (text : List ℕ) (f g : Fault) → FirstFault bounds text f → FirstFault bounds text g → f ≡ g
 FirstFault-unique bounds text f g a b =
@@ -152,7 +156,7 @@ pub Reads-from_lines :
     Reads bounds text (record { first = f; states = n; transitions = es })
 Reads-from_lines bounds text line lines f m n es l g good count = grind (arith, among_spelled, header, g.first)
 
--- It is decidable whether a line denotes a transition of a system with n states.
+-- It is decidable whether a line denotes a transition whose source and target are less than n.
 decide_edge : (n : ℕ) (line : List ℕ) → ((e : Transition) × SpellsAmong n line e)
     ⊎ ((e : Transition) → ¬ SpellsAmong n line e)
 decide_edge n line =
@@ -163,8 +167,8 @@ decide_edge n line =
 abbrev IsEnd : List (List ℕ) → Type 0
 IsEnd lines = lines ≡ []
 
--- Suppose that reading stops after correct lines. Then either the input ends after the last transition that the header
--- declares, or there is an error.
+-- Suppose that reading stops after correct transitions. Then either all transitions that the header declares have been
+-- read and no line follows, or there is an error (`NextFault`).
 next_judged : (m n found : ℕ) (others : List (List ℕ)) → found ≤ m → Stops (SpellsAmong n) m found others →
     ((found ≡ m) × IsEnd others) ⊎ ((fault : Fault) × NextFault m n found others fault)
 next_judged m n found [] few stops = grind arith

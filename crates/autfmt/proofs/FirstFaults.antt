@@ -1,6 +1,6 @@
--- Lemmas about the first incorrect line of an input, for systems and for hide lists (the labels to hide). In these
--- lemmas, the relation `Good` relates a correct line to the transition or the label on this line, and `most` is the
--- largest number of such lines that is allowed.
+-- The lemmas in this file are about the first incorrect line of an input, which is a system or a hide list (a file with
+-- the labels to hide). In these lemmas, the relation `Good` relates a correct line to the transition or the label on
+-- this line. The number `most` is the largest number of such lines that is allowed.
 use Rattle.std.proofs.Common.{◌≡◌, ◌⊎◌, ◌↔◌, ⊎_elim, ℕ, ◌+◌, ◌<◌, ◌≤◌, List, [], ◌∷◌, ◌++◌, length, replicate, All}
 use Rattle.std.proofs.Common.{refl, sym, ◌∙◌, ap, subst, inl, inr, arith}
 use Rattle.std.specs.List.{AllZip}
@@ -14,8 +14,8 @@ use Rattle.autfmt.specs.Texts.{Cuts, Lines, IsOneLine, IsShort, last_line}
 use Rattle.autfmt.proofs.Lists.{All-between}
 use Rattle.autfmt.proofs.Cutting.{IsNoFeed, Lines-unique, Lines-longer}
 
--- Assume that an input either can be read or has an error, but not both. Then the input can be read if and only if it
--- has no error.
+-- Suppose that an input can be read or has an error, and that it has no error if it can be read. Then the input can be
+-- read if and only if it has no error.
 pub without_fault : {X : Type 0} (P : Fault → Type 0) → X ⊎ ((f : Fault) × P f) → (X → (f : Fault) → ¬ P f) →
     ((f : Fault) → ¬ P f) ↔ X
 without_fault P one not_both = (λ none. ⊎_elim (λ x. x) (λ bad. absurd (none bad.0 bad.1)) one, not_both)
@@ -32,7 +32,8 @@ module _ {X : Type 0} (Good : List ℕ → X → Type 0) (most : ℕ) where
       front ≡ line ∷ lines ++ others → Stops found front → ⊥
   goes_on found front lines others line x less good e stops = grind arith
 
-  -- There is at most one way to divide a list of lines into correct lines and the lines before which reading stops.
+  -- There is at most one way to divide a list of lines into two parts such that each line of the first part is correct,
+  -- and reading stops before the second part.
   pub one_front : (found : ℕ) (lines lines' others others' : List (List ℕ)) (xs ys : List X) (i j : ℕ) →
       lines ++ others ≡ lines' ++ others' →
       AllZip Good lines xs → AllZip Good lines' ys → i ≡ found + length xs → j ≡ found + length ys →
@@ -43,8 +44,9 @@ module _ {X : Type 0} (Good : List ℕ → X → Type 0) (most : ℕ) where
       one_front (found + 1) lines lines' others others' xs ys i j tail a.1 b.1 (omega arith) (omega arith) few few' s s'
   one_front found lines lines' others others' xs ys i j e a b p q few few' s s' = grind arith
 
-  -- `Divided found all` holds if the list of lines `all` can be divided into two parts: correct lines, and further
-  -- lines before which reading stops.
+  -- `Divided found all` holds if the list of lines `all` can be divided into two parts. The lines of the first part are
+  -- correct, and reading stops before the second part. The number `found` counts the correct lines before the list
+  -- `all`.
   pub record Divided (found : ℕ) (all : List (List ℕ)) : Type 0 where
     pub lines : List (List ℕ)
     pub others : List (List ℕ)
@@ -99,10 +101,10 @@ short_lines text lines l short (front, others, line, l', long) =
 short_last : (rest : List ℕ) → IsShort rest → All IsShort (last_line rest)
 short_last rest short = grind arith
 
--- Suppose that the bytes `given`, which have been read so far, have no line that is too long. Suppose also that the
--- first error of the input is `LineTooLong k` if the bytes that follow make the last line too long. Then the bytes
--- `given` do not determine the first error of the whole input, because `LineTooLong k` is not the first error if no
--- bytes follow.
+-- Let `given` be the bytes that have been read so far, and suppose that they have no line that is too long. Suppose
+-- also that the first error of the whole input is `LineTooLong k` if the bytes that follow make the last line too long.
+-- Then the first error of the whole input still depends on the bytes that may follow. The reason is that `LineTooLong
+-- k` is not the first error if no bytes follow.
 pub not_known :
     (First : List ℕ → Fault → Type 0) → ((text : List ℕ) (f g : Fault) → First text f → First text g → f ≡ g) →
     ((text : List ℕ) (k : ℕ) → First text (LineTooLong k) → HasLongLine text) →

@@ -17,21 +17,21 @@ use Rattle.autfmt.proofs.Cutting.{IsNoFeed}
 use Rattle.autfmt.specs.declared.cutter.TheConstants.{CHUNK}
 use Rattle.autfmt.specs.declared.line.TheConstants.{LONGEST_LINE}
 
--- If the buffer has a part of a line, and the next bytes of the line fit into the buffer, then the buffer and these
--- bytes together are a part of the line.
+-- Suppose that the buffer has a part of a line, and that the next bytes of the line fit into the buffer. Then the bytes
+-- of the buffer, followed by the next bytes, are a part of the line too.
 pub IsPart-append : (buffer bytes : List ℕ) → IsPart buffer → IsOneLine bytes →
     length buffer + length bytes ≤ LONGEST_LINE → IsPart (buffer ++ bytes)
 IsPart-append buffer bytes part one fits = grind (arith, common_steps, All-append, length-append)
 
--- If bytes are read from a source (what the input is read from) in two calls, then both calls together read the bytes
--- of the first call, followed by the bytes of the second call.
+-- Suppose that two calls read bytes from a source (an object from which an input is read), one call after the other.
+-- Then both calls together read the bytes of the first call, followed by the bytes of the second call.
 pub got_more : (a b c : Option (List ℕ)) (old bs buffer bytes : List ℕ) → Consumes a b bs → buffer ≡ old ++ bs →
     Consumes b c bytes → (x : List ℕ) × Consumes a c x × (old ++ x ≡ buffer ++ bytes)
 got_more a b c old bs buffer bytes first e second = grind (arith, Consumes-trans, append_assoc)
 
--- Suppose that the buffer contains the beginning of a line, and the chunk (the bytes that were last read from the
--- input) contains a line feed. If the bytes before this line feed fit into the buffer, then the buffer contains the
--- whole line once these bytes have been appended.
+-- Suppose that the buffer contains the beginning of a line, and that the chunk (the bytes that were last read from the
+-- input) contains a line feed. If the bytes of the chunk before this line feed fit into the buffer and are appended to
+-- the buffer, then the buffer contains the whole line.
 pub feed_found :
     (a b c : Option (List ℕ)) (old bs buffer buf buffer' : List ℕ) (n at : ℕ) → Consumes a b bs → buffer ≡ old ++ bs →
     IsPart buffer → Consumes b c (take n buf) → n ≤ length buf → at < length (take n buf) →
@@ -43,7 +43,8 @@ feed_found a b c old bs buffer buf buffer' n at first e part second within below
     let (x, taken, same) = got_more a b c old bs buffer bytes first e second in
     grind (arith, take-append-drop, between_is, append_assoc, length-take-le, IsPart-append)
 
--- If the bytes of a line do not fit into the buffer, then the line is too long.
+-- Suppose that the buffer contains the beginning of a line, and that the next bytes of this line do not fit into the
+-- buffer. Then the line is too long.
 pub too_long : (a b c : Option (List ℕ)) (old bs buffer bytes front tail : List ℕ) →
     Consumes a b bs → buffer ≡ old ++ bs → IsPart buffer → Consumes b c bytes → bytes ≡ front ++ tail →
     IsOneLine front →
@@ -68,15 +69,16 @@ slice_behind chunk from to at below ordered =
     let e : to - from ≡ at + 1 + (to - (from + (at + 1))) = omega arith in
     rw (e, drop-take, drop-drop) refl
 
--- `cut_at` is the state of a line splitter after it has split off a line that ends within the chunk (the bytes that
--- were last read from the input). The line feed after this line is at the index `at` of the undivided bytes.
+-- `cut_at` is the state of a line splitter after it has split off a line that ends within the chunk, which has the
+-- bytes that were last read from the input. The line feed after this line has the index `at` among the bytes that were
+-- not yet divided into lines.
 abbrev pub cut_at : List ℕ → ℕ → ℕ → ℕ → Bool → Cutting
 cut_at chunk from to at over =
     record { line = slice_range chunk from (from + at); ahead = slice_range chunk (from + (at + 1)) to; over = over }
 
--- Suppose that the undivided bytes of the chunk (the bytes that were last read from the input) contain a line feed.
--- Then the bytes before the first line feed are the next line. The bytes after this line feed are not yet divided into
--- lines.
+-- Suppose that the chunk (the bytes that were last read from the input) contains bytes that are not yet divided into
+-- lines, and that there is a line feed among these bytes. Then the bytes before the first such line feed are the next
+-- line, and the bytes after it are not yet divided into lines.
 pub line_in_piece :
     (chunk : List ℕ) (from to at : ℕ) (over : Bool) → over ≡ false → at < length (slice_range chunk from to) →
     from ≤ to → to ≤ CHUNK → IsOneLine (take at (slice_range chunk from to)) →
@@ -89,12 +91,12 @@ abbrev cutting : List ℕ → List ℕ → Bool → Cutting
 cutting line ahead over = record { line = line; ahead = ahead; over = over }
 
 -- If the chunk (the bytes that were last read from the input) contains bytes that are not yet divided into lines, the
--- source (what the input is read from) has not ended.
+-- source (the object from which the input is read) has not ended.
 goes_on_ahead : (from to : ℕ) (over : Bool) → (over ≡ true → from ≡ to) → from < to → over ≡ false
 goes_on_ahead from to over used some = grind arith
 
--- If a line and its line feed are skipped, then the bytes that are not yet divided into lines are the bytes after this
--- line feed.
+-- Suppose that the bytes that are not yet divided into lines begin with a line and its line feed. If the line splitter
+-- skips this line, then the bytes that are not yet divided into lines are the bytes after the line feed.
 pub passed : (handed chunk : List ℕ) (from to left : ℕ) (over : Bool) (line rest : List ℕ) → from ≤ to
     → to ≤ length chunk → (over ≡ true → from ≡ to) → slice_range chunk from to ≡ line ++ 10 ∷ rest
     → left ≡ length rest → cutting handed (slice_range chunk (to - left) to) over ≡ cutting handed rest false

@@ -1,5 +1,5 @@
--- Lemmas about `HasCut`, which says that the line splitter (`Cutter`) has divided the bytes that it was given into
--- lines. There is one lemma for each result that a call of the line splitter may have.
+-- `HasCut` says that the line splitter (`Cutter`) has divided the bytes that were read from the input into lines. This
+-- file has one lemma about `HasCut` for each result that a call of the line splitter may have.
 use Rattle.std.proofs.Common.{◌≡◌, ⊎_elim, ℕ, ◌<◌, ◌≤◌, true, false, List, [], ◌∷◌, ◌++◌, length, All, refl, sym, inl}
 use Rattle.std.proofs.Common.{inr, arith}
 use Rattle.std.proofs.lemmas.List.{append_assoc, append-nil, length-append}
@@ -10,7 +10,8 @@ use Rattle.autfmt.specs.Cutter.{Cutting, HasCut, CutsLine, BeginsTooLong, with_l
 use Rattle.autfmt.proofs.Cutting.{Lines-behind, Lines-nil, Lines-one, lines_of, first_begins, some_line}
 use Rattle.autfmt.specs.declared.line.TheConstants.{LONGEST_LINE}
 
--- Before the line splitter has read any bytes of the input, it has returned no lines.
+-- Before the line splitter has read any bytes of the input, it has divided the empty list of bytes into an empty list
+-- of lines (`HasCut`).
 pub HasCut-new : HasCut [] [] (record { line = []; ahead = []; over = false })
 HasCut-new = inl (refl, refl, All-nil IsOneLine)
 
@@ -21,8 +22,9 @@ pub behind_whole : (given ahead more : List ℕ) (lines : List (List ℕ)) → g
     with_line_feeds lines ++ (ahead ++ more) ≡ given ++ more
 behind_whole given ahead more lines e = rw (e, append_assoc) refl
 
--- The lines that the line splitter has returned are the first lines of the whole input, which consists of the bytes
--- `given` and the bytes `more`.
+-- Suppose that the line splitter has divided the bytes `given` into lines, and that the bytes `more` of the input
+-- follow. Suppose also that `more` is empty if the line splitter has recorded the end of the input. Then the first
+-- lines of the whole input are the lines that the line splitter has returned.
 pub HasCut-lines : (given more : List ℕ) (lines : List (List ℕ)) (at : Cutting) → HasCut given lines at →
     (at.over ≡ true → more ≡ []) → (others : List (List ℕ)) × Lines (given ++ more) (lines ++ others)
 HasCut-lines given more lines at (inl (open_at, e, one)) end =
@@ -30,8 +32,8 @@ HasCut-lines given more lines at (inl (open_at, e, one)) end =
     (others, rw (← behind_whole given at.ahead more lines e) (Lines-behind lines (at.ahead ++ more) others one l))
 HasCut-lines given more lines at (inr (over, none, l)) end = ([], rw (end over, append-nil given, append-nil lines) l)
 
--- If all bytes have been divided into lines and the input ends, then the lines that the line splitter has returned are
--- all lines of the input.
+-- Suppose that the line splitter has divided the bytes `given` into lines, and that no byte remains that is not yet
+-- divided into lines. Then the lines that the line splitter has returned are all lines of the bytes that were read.
 pub HasCut-end :
     (given got : List ℕ) (lines : List (List ℕ)) (old : Cutting) → HasCut given lines old → old.ahead ++ got ≡ [] →
     Lines (given ++ got) lines
@@ -47,8 +49,8 @@ module _ (given got : List ℕ) (lines : List (List ℕ)) (old : Cutting) (cut :
   whole : (more : List ℕ) → with_line_feeds lines ++ (old.ahead ++ more) ≡ given ++ more
   whole more = behind_whole given old.ahead more lines parts.0
 
-  -- If the line splitter splits off the next line, then the bytes taken so far are divided into the previous lines and
-  -- this line.
+  -- If the line splitter splits off the next line, then it has divided all bytes that were read so far into the
+  -- previous lines and this line (`HasCut`).
   pub HasCut-line : (now : Cutting) → CutsLine (old.ahead ++ got) now →
       HasCut (given ++ got) (lines ++ now.line ∷ []) now
   HasCut-line now cuts =
@@ -66,13 +68,13 @@ module _ (given got : List ℕ) (lines : List (List ℕ)) (old : Cutting) (cut :
       ))
       cuts.behind
 
-  -- If neither the undivided bytes nor the bytes `got` contain a line feed, then the undivided bytes followed by `got`
-  -- are the bytes after the last line feed of the input that was read so far.
+  -- Suppose that neither the bytes `got` nor the bytes before them that are not yet divided into lines contain a line
+  -- feed. Then these bytes together are the bytes after the last line feed of the input that was read so far.
   pub HasCut-part : IsOneLine (old.ahead ++ got) → Cuts (given ++ got) lines (old.ahead ++ got)
   HasCut-part part = record { whole = sym (whole got); lines = parts.1; one = part }
 
-  -- The lines of the whole input are the lines that the line splitter has returned, followed by the lines of the
-  -- remaining bytes.
+  -- The lines of the whole input are the lines that the line splitter has returned, followed by the lines of the bytes
+  -- that were not yet divided into lines, the bytes `got` and the bytes `more` that follow.
   lines_behind :
       (more bytes : List ℕ) (others : List (List ℕ)) → bytes ≡ old.ahead ++ got ++ more → Lines bytes others →
       Lines (given ++ got ++ more) (lines ++ others)
@@ -80,8 +82,8 @@ module _ (given got : List ℕ) (lines : List (List ℕ)) (old : Cutting) (cut :
       rw (append_assoc, ← whole (got ++ more), ← append_assoc old.ahead got more, ← same)
       (Lines-behind lines bytes others parts.1 l)
 
-  -- If the next line is too long, then the whole input has the lines that the line splitter has returned, followed by a
-  -- line that is too long. The statement holds for all bytes `more` that may follow.
+  -- Suppose that the next line is too long. Then the whole input has the lines that the line splitter has returned,
+  -- followed by a line that is too long. This holds for all bytes `more` that may follow.
   pub HasCut-too_long : (more : List ℕ) → BeginsTooLong (old.ahead ++ got) →
       (line : List ℕ) × (others : List (List ℕ)) × (LONGEST_LINE < length line) × Lines (given ++ got ++ more)
       (lines ++ line ∷ others)

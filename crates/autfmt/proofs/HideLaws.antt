@@ -1,5 +1,5 @@
--- A text either can be read as a hide list (one label to hide on each line) in exactly one way, or is incorrect, and
--- then exactly one error is its first error.
+-- Every text is a hide list (a file with one label to hide on each line) in exactly one way, or has exactly one first
+-- error, which is the error that is reported. No text does both.
 use Rattle.std.proofs.Common.{◌≡◌, ◌⊎◌, ⊎_elim, ℕ, cond, ltb, Option, Some, None, ◌+◌, ◌<◌, ◌≤◌, List, [], ◌∷◌, ◌++◌}
 use Rattle.std.proofs.Common.{length, refl, sym, ◌∙◌, subst, inl, inr, arith, rules}
 use Rattle.std.specs.List.{AllZip}
@@ -22,12 +22,13 @@ use Rattle.autfmt.proofs.Decisions.{one_hide_line, decide_hide_line, unread}
 use Rattle.autfmt.specs.declared.line.TheConstants.{LONGEST_LINE}
 use Rattle.autfmt.specs.declared.limits.TheConstants.{MOST_LINES}
 
--- `GoodHide k line` holds if line k of a hide list (the labels to hide) is correct: k is at most the number of lines
--- that are allowed, and the line is a label.
+-- `GoodHide k line` holds if line k of a hide list (a file with one label to hide on each line) is correct. First, k
+-- must be at most the number of lines that are allowed. Second, the line must be a label, with any blanks around it.
 abbrev pub GoodHide : ℕ → List ℕ → Type 0
 GoodHide k line = (k ≤ MOST_LINES) × (a : List ℕ) × Hides line a
 
--- `hide_fault k line` is the error of line k of a hide list (the labels to hide), or None if the line has no error.
+-- `hide_fault k line` is the error of line k of a hide list (a file with one label to hide on each line). It is `None`
+-- if the line has no error.
 abbrev hide_fault : ℕ → List ℕ → Option Fault
 hide_fault k line =
     cond (ltb MOST_LINES k) (Some TooManyHidden)
@@ -47,14 +48,15 @@ HideFault-is k line _ h = absurd h
 HideFault-unique : (k : ℕ) (line : List ℕ) (f g : Fault) → HideFault k line f → HideFault k line g → f ≡ g
 HideFault-unique k line f g a b = same_Some f g (sym (HideFault-is k line f a) ∙ HideFault-is k line g b)
 
--- If a line of a hide list (the labels to hide) is correct, then the line has no error.
+-- If a line of a hide list (a file with one label to hide on each line) is correct (`GoodHide`), then no error applies
+-- to this line (`HideFault`).
 pub GoodHide-no_fault : (k : ℕ) (line : List ℕ) (fault : Fault) → GoodHide k line → HideFault k line fault → ⊥
 GoodHide-no_fault k line fault (few, a, good) bad =
     let fine : hide_fault k line ≡ None =
     rw (le-ltb MOST_LINES k few, le-ltb LONGEST_LINE (length line) good.0, hide_line_at-again line a good.1) refl in
     none-some fault (sym fine ∙ HideFault-is k line fault bad)
 
--- Every line of a hide list (the labels to hide) is correct or has an error.
+-- Every line of a hide list (a file with one label to hide on each line) is correct or has an error.
 pub hide_judged : (k : ℕ) (line : List ℕ) → GoodHide k line ⊎ ((fault : Fault) × HideFault k line fault)
 hide_judged k line = step (cases_lt MOST_LINES k) (cases_lt LONGEST_LINE (length line)) (decide_hide_line line)
   where
@@ -66,13 +68,14 @@ hide_judged k line = step (cases_lt MOST_LINES k) (cases_lt LONGEST_LINE (length
     step (inr x) (inr s) (inr none) = inr (BadHide k, (refl, x, s, none))
     step (inr x) (inr s) (inl h) = inl (x, h.0, (s, h.1))
 
--- If the next line has an error, then reading stops before this line.
+-- Suppose that a hide list (a file with one label to hide on each line) begins with correct lines, and that the next
+-- line has an error. Then reading stops before this line.
 hide_stops : (lines labels : List (List ℕ)) (line : List ℕ) (others : List (List ℕ)) (fault : Fault) →
     AllZip Hides lines labels →
     HideFault (length lines + 1) line fault → Stops Hides MOST_LINES (length labels) (line ∷ others)
 hide_stops lines labels line others fault named bad less a good = grind (arith, AllZip-long, GoodHide-no_fault)
 
--- At most one error is the first error of a hide list (the labels to hide, one on each line).
+-- A text that is read as a hide list (a file with one label to hide on each line) has at most one first error.
 pub FirstHideFault-unique : (text : List ℕ) (f g : Fault) → FirstHideFault text f → FirstHideFault text g → f ≡ g
 FirstHideFault-unique text f g a b =
     let whole = Lines-unique text (a.lines ++ a.line ∷ a.others) (b.lines ++ b.line ∷ b.others) a.whole b.whole in
@@ -87,14 +90,15 @@ FirstHideFault-unique text f g a b =
     (hide_stops b.lines b.labels b.line b.others g b.named b.faulty) in
     grind (arith, b.lines, a.lines, b.line, a.line, HideFault-unique, a.faulty, b.faulty)
 
--- A text can be read as a hide list (the labels to hide, one on each line) in at most one way.
+-- A text can be read as a hide list (a file with one label to hide on each line) in at most one way.
 pub HideReads-unique : (text : List ℕ) (H H' : List (List ℕ)) → HideReads text H → HideReads text H' → H ≡ H'
 HideReads-unique text H H' a b =
     let same = Lines-unique text b.0 a.0 b.1 a.1 in
     AllZip-unique Hides (λ line x y h k. one_hide_line line x y h.1 k.1) a.0 H H' a.3
     (subst (λ (lines : List (List ℕ)). AllZip Hides lines H') same b.3)
 
--- If a text can be read as a hide list (one label to hide on each line), then the text has no error (`FirstHideFault`).
+-- If a text can be read as a hide list (a file with one label to hide on each line), then the text has no error
+-- (`FirstHideFault`).
 pub HideReads-no_fault : (text : List ℕ) (H : List (List ℕ)) (fault : Fault) → HideReads text H →
     FirstHideFault text fault → ⊥
 HideReads-no_fault text H fault (lines, l, few, named) f =
@@ -107,7 +111,8 @@ HideReads-no_fault text H fault (lines, l, few, named) f =
     (hide_stops f.lines f.labels f.line f.others fault f.named f.faulty) in
     let none = same.1 in cc
 
--- Every text can be read as a hide list (one label to hide on each line) or has an error (`FirstHideFault`).
+-- Every text can be read as a hide list (a file with one label to hide on each line) or has an error
+-- (`FirstHideFault`).
 pub hide_text_judged : (text : List ℕ) → ((H : List (List ℕ)) × HideReads text H)
     ⊎ ((fault : Fault) × FirstHideFault text fault)
 hide_text_judged text = let (all, l) = lines_of text in
@@ -150,31 +155,33 @@ hide_text_judged text = let (all, l) = lines_of text in
             ))
             (hide_judged (length d.lines + 1) line)
 
--- If the first error of a text is that a line is too long, then the text has a line that is too long.
+-- If the first error of a text is `LineTooLong`, then the text has a line of more than 8192 bytes (`HasLongLine`).
 long_hide_line : (text : List ℕ) (k : ℕ) → FirstHideFault text (LineTooLong k) → HasLongLine text
 long_hide_line text k f = (f.lines, f.others, f.line, f.whole, f.faulty.2)
 
 module _ (given more : List ℕ) where
-  -- Assume that the line with the first error of a text would still have this error if any bytes were appended to the
-  -- line. Then this error remains the first error when further bytes are appended to the text.
+  -- Consider the line that has the first error of a text. Suppose that this line still has the same error if any bytes
+  -- are appended to the line. Then the error remains the first error of the text if further bytes are appended to the
+  -- text.
   hide_fault_stays : (fault : Fault) (f : FirstHideFault given fault) →
       ((tail : List ℕ) → HideFault (length f.lines + 1) (f.line ++ tail) fault) → FirstHideFault (given ++ more) fault
   hide_fault_stays fault f stays =
       let (tail, others, whole) = line_grows given more f.lines f.others f.line f.whole in
       search rules
 
-  -- If the first error of a hide list (the labels to hide) is that a line is too long, then this error remains the
-  -- first error when further bytes are appended.
+  -- Suppose that the first error of a hide list (a file with one label to hide on each line) is that a line is too
+  -- long. Then this error remains the first error if further bytes are appended to the hide list.
   pub long_hide_stays : (k : ℕ) → FirstHideFault given (LineTooLong k) → FirstHideFault (given ++ more) (LineTooLong k)
   long_hide_stays k f = hide_fault_stays (LineTooLong k) f (λ tail.
       let long = f.faulty.2 in (f.faulty.0, f.faulty.1, omega (arith, length-append f.line tail)))
 
-  -- If the first error of a hide list (the labels to hide) is that there is one line too many, then this error remains
-  -- the first error when further bytes are appended.
+  -- Suppose that the first error of a hide list (a file with one label to hide on each line) is that it has too many
+  -- lines. Then this error remains the first error if further bytes are appended to the hide list.
   pub extra_hide_stays : FirstHideFault given TooManyHidden → FirstHideFault (given ++ more) TooManyHidden
   extra_hide_stays f = hide_fault_stays TooManyHidden f (λ tail. f.faulty)
 
-  -- If a text ends with a line feed, then its first error remains the first error when further bytes are appended.
+  -- Suppose that a text ends with a line feed, and has a first error as a hide list (a file with one label to hide on
+  -- each line). Then this error remains the first error if further bytes are appended to the text.
   pub ended_hide_stays : (ended : List (List ℕ)) (fault : Fault) → Cuts given ended [] → FirstHideFault given fault →
       FirstHideFault (given ++ more) fault
   ended_hide_stays ended fault c f = record {
@@ -191,10 +198,11 @@ module _ (given more : List ℕ) where
     faulty = f.faulty;
   }
 
--- Suppose that the bytes that have been read so far are correct lines of a hide list (the labels to hide), and at most
--- 8192 bytes (`LONGEST_LINE`) of the next line. Suppose also that further lines are allowed, or that there are no bytes
--- of the next line. Then the bytes do not determine the first error of the whole hide list. If further lines are
--- allowed, the next line may still become too long. Otherwise, the list has no error if it ends here.
+-- Suppose that the bytes that have been read so far are correct lines of a hide list (a file with one label to hide on
+-- each line), followed by at most 8192 bytes (`LONGEST_LINE`) of the next line. Suppose also that further lines are
+-- allowed, or that there are no bytes of the next line. Then the first error of the whole hide list still depends on
+-- the bytes that may follow. If further lines are allowed, the next line may still become too long. Otherwise, the list
+-- has no error if it ends here.
 pub no_judged_hide_fault :
     (given : List ℕ) (lines : List (List ℕ)) (rest : List ℕ) (H : List (List ℕ)) (fault : Fault) →
     Cuts given lines rest → AllZip Hides lines H → length lines ≤ MOST_LINES → length rest ≤ LONGEST_LINE →

@@ -28,7 +28,8 @@ pushed H a b =
     let new : b ≡ a → Contains (H ++ a ∷ []) b = λ e. rw e (Contains-push H a) in
     (λ c. ⊎_elim (λ d. inl d) (λ e. inr (sym e)) (Contains-push_cases H a b c), ⊎_elim old new)
 
--- If a label is interned in a table, then the table has its old labels and this label.
+-- If a label is interned in a label table, then the new table contains exactly the labels of the old table and this
+-- label.
 pub AddsLabel-intern : (old : List (List ℕ)) (a : List ℕ) (now : List (List ℕ)) → Interns old a now →
     AddsLabel old a now
 AddsLabel-intern old a now (inl (known, same)) = grind arith
@@ -43,20 +44,21 @@ SameLabels-add :
 SameLabels-add hidden H a now same added b =
     let s = same b in let l = added.labels b in let p = pushed H a b in grind (arith, s, l, p)
 
--- Before the reader has read any bytes of the input, it has read no lines.
+-- Before the reader has read any bytes of the hide list (a file with one label to hide on each line), it has read no
+-- labels.
 pub HideReadSoFar-new : (old : Cutting) (hidden : List (List ℕ)) → old ≡ fresh → hidden ≡ [] →
     HideReadSoFar [] old [] hidden
 HideReadSoFar-new old hidden e none = grind arith
 
--- Assume that the reader has read some lines, and then reads the bytes `got` from its source (what the list is read
--- from).
+-- Assume that the reader has read some lines, and then reads the bytes `got` from its source (the object from which the
+-- hide list is read).
 module _ {given : List ℕ} {old : Cutting} {H hidden : List (List ℕ)} (got : List ℕ)
     (so_far : HideReadSoFar given old H hidden) where
   as_many : length H ≡ length so_far.lines
   as_many = AllZip-long Hides so_far.lines H so_far.named
 
-  -- If there are no further bytes and the source (what the list is read from) has ended, then the bytes read so far are
-  -- a hide list with the labels that were read.
+  -- Suppose that all bytes that were read are divided into lines, and that the source (the object from which the hide
+  -- list is read) has ended. Then these bytes are a hide list with the labels that were read.
   pub hide_ends : length H ≤ MOST_LINES → old.ahead ++ got ≡ [] → HidesAs (given ++ got) hidden
   hide_ends few none = (
     H,
@@ -64,10 +66,10 @@ module _ {given : List ℕ} {old : Cutting} {H hidden : List (List ℕ)} (got : 
     so_far.same,
   )
 
-  -- Suppose that the source (what the list is read from) fails before the next line has been read to its end. Then the
-  -- reader may return `Device`, which is the error of a failed source. The contract allows this error only if the bytes
-  -- that were read do not determine the first error of the list. They do not determine it, because the next line may
-  -- still become too long.
+  -- Suppose that the source (the object from which the hide list is read) fails before the next line has been read to
+  -- its end. Then the reader may return `Device`, which is the error of a failed source. The contract allows this error
+  -- only if the first error of the hide list still depends on the bytes that may follow. It depends on them, because
+  -- the next line may still become too long.
   pub hide_failed : (rest : Option (List ℕ)) (failures : ℕ) → length H ≤ MOST_LINES →
       (length H < MOST_LINES) ⊎ (length (old.ahead ++ got) ≡ 0) → failures ≡ 1 → (old.over ≡ true → ⊥) →
       IsPart (old.ahead ++ got) → HideRefuses (given ++ got) rest failures Device
@@ -76,16 +78,17 @@ module _ {given : List ℕ} {old : Cutting} {H hidden : List (List ℕ)} (got : 
       failed_source failed refl (λ f. no_judged_hide_fault (given ++ got) so_far.lines (old.ahead ++ got) H f c
       so_far.named (omega (arith, as_many)) part.1 (rw as_many at unjudged))
 
-  -- Suppose that the source (what the list is read from) fails after the last line that is allowed. Then the reader may
-  -- return `Device`, which is the error of a failed source. The contract allows this error only if the bytes that were
-  -- read do not determine the first error of the list. They do not determine it, because the list has no error unless
-  -- another line follows.
+  -- Suppose that the source (the object from which the hide list is read) fails after the last line that is allowed.
+  -- Then the reader may return `Device`, which is the error of a failed source. The contract allows this error only if
+  -- the first error of the hide list still depends on the bytes that may follow. It depends on them, because the hide
+  -- list has no error if no further line follows.
   pub hide_end_failed :
       (rest : Option (List ℕ)) (failures : ℕ) → length H ≡ MOST_LINES → failures ≡ 1 → (old.over ≡ true → ⊥) →
       old.ahead ++ got ≡ [] → HideRefuses (given ++ got) rest failures Device
   hide_end_failed rest failures count failed goes_on none = grind (arith, hide_failed, All-nil)
 
-  -- If the next line has the label a, then the reader has read one more label, which is a.
+  -- If the next line is the label a, then the labels that have been read are the labels before this line and the label
+  -- a.
   pub hide_good :
       (now : Cutting) (a : List ℕ) (hidden' : List (List ℕ)) → (old.over ≡ true → ⊥) → CutsLine (old.ahead ++ got) now →
       Hides now.line a → AddsLabel hidden a hidden' → HideReadSoFar (given ++ got) now (H ++ a ∷ []) hidden'
@@ -96,9 +99,9 @@ module _ {given : List ℕ} {old : Cutting} {H hidden : List (List ℕ)} (got : 
     same = SameLabels-add hidden H a hidden' so_far.same added;
   }
 
-  -- Assume that the source (what the list is read from) has not failed. In this case, each error that the reader
-  -- returns must be the first error of the whole list. This is required only if the contract of the source states which
-  -- bytes it contains.
+  -- Assume that the source (the object from which the hide list is read) has not failed. In this case, each error that
+  -- the reader returns must be the first error of the whole list. This is required only if the contract of the source
+  -- states which bytes it contains.
   module _ (found : ℕ) (rest : Option (List ℕ)) (failures : ℕ) (count : length H ≡ found) (sound : failures ≡ 0) where
     refused_behind : (fault : Fault) → IsHideFault fault → found ≤ MOST_LINES →
         ((more : List ℕ) → rest ≡ Some more → (line : List ℕ) × (others : List (List ℕ))
@@ -106,7 +109,8 @@ module _ {given : List ℕ} {old : Cutting} {H hidden : List (List ℕ)} (got : 
         HideRefuses (given ++ got) rest failures fault
     refused_behind fault kind few next = grind (arith, faulty_text, if_told, so_far.lines, so_far.named, as_many)
 
-    -- If the next line is too long, the reader may return `LineTooLong` with the number of this line.
+    -- If the next line of the hide list (a file with one label to hide on each line) is too long, then the reader may
+    -- return `LineTooLong` with the number of this line.
     pub hide_too_long : found < MOST_LINES → (old.over ≡ true → ⊥) → BeginsTooLong (old.ahead ++ got) →
         HideRefuses (given ++ got) rest failures (LineTooLong (found + 1))
     hide_too_long few goes_on long =
@@ -114,7 +118,8 @@ module _ {given : List ℕ} {old : Cutting} {H hidden : List (List ℕ)} (got : 
         let (line, others, big, l) = HasCut-too_long given got so_far.lines old so_far.cut goes_on more long in
         (line, others, l, (refl, omega arith, big)))
 
-    -- If there is a line after the last line that is allowed, the reader may return `TooManyHidden`.
+    -- If the hide list (a file with one label to hide on each line) has a line after the last line that is allowed,
+    -- then the reader may return `TooManyHidden`.
     pub hide_behind : found ≡ MOST_LINES → (old.over ≡ true → ⊥) → 1 ≤ length (old.ahead ++ got) →
         HideRefuses (given ++ got) rest failures TooManyHidden
     hide_behind all goes_on some =
@@ -122,7 +127,8 @@ module _ {given : List ℕ} {old : Cutting} {H hidden : List (List ℕ)} (got : 
         let (line, others, l) = HasCut-more given got so_far.lines old so_far.cut goes_on more some in
         (line, others, l, omega arith))
 
-    -- If the next line has an error, the reader may return this error.
+    -- If the next line of the hide list (a file with one label to hide on each line) has an error, then the reader may
+    -- return this error.
     pub hide_faulty : (now : Cutting) (fault : Fault) → found < MOST_LINES → (old.over ≡ true → ⊥) →
         (now.over ≡ true → IsAtEnd rest) →
         CutsLine (old.ahead ++ got) now → HideFault (found + 1) now.line fault → IsHideFault fault →

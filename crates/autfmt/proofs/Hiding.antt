@@ -1,4 +1,5 @@
--- Lemmas about hiding labels. Hiding depends only on which labels are in the hide list (the labels to hide).
+-- The lemmas in this file are about hiding the labels of a hide list, which has the labels to hide. The result depends
+-- only on which labels are in the hide list, and not on their order.
 use Rattle.std.proofs.Common.{◌≡◌, ◌↔◌, ℕ, zero, suc, ◌<◌, true, List, [], ◌∷◌, length, map, get_or, Contains, refl}
 use Rattle.std.proofs.Common.{sym, ap, ap₂, arith}
 use Rattle.std.specs.List.{list_any}
@@ -10,7 +11,8 @@ use Rattle.std.proofs.lemmas.List.Elements.{Contains-get_or}
 use Rattle.lts.specs.Labels.{IsLabelId}
 use Rattle.theory.specs.System.{System, Transition, internal, hidden_label, hidden_transition, Hide}
 
--- If the hide list H (the labels to hide) contains the label a at the index k, the search for a in H is successful.
+-- If the label a is at the index k of the hide list H, which has the labels to hide, then the search for a in H is
+-- successful.
 pub found_in : (H : List (List ℕ)) (a : List ℕ) (k : ℕ) → k < length H → get_or H k a ≡ a →
     list_any (bytes_eq a) H ≡ true
 found_in [] a k h e = absurd (omega arith)
@@ -23,29 +25,33 @@ found_from H a c = found_in H a c.0 c.1 c.2
 pub contains_from : (H : List (List ℕ)) (a : List ℕ) → list_any (bytes_eq a) H ≡ true → Contains H a
 contains_from H a e = Contains-from_any {eq = bytes_eq} (λ x y. (bytes_eq-Decides x y).0) a H e
 
--- If the hide list (the labels to hide) contains a label, then hiding changes this label into the internal label.
+-- If a hide list (a list of the labels to hide) contains a label, then hiding changes this label into the internal
+-- label.
 pub hidden_label-hidden : (H : List (List ℕ)) (a : List ℕ) → Contains H a → hidden_label H a ≡ internal
 hidden_label-hidden H a c = cond-true (list_any (bytes_eq a) H) internal a (found_from H a c)
 
--- If the hide list (the labels to hide) does not contain a label, then hiding does not change this label.
+-- If a hide list (a list of the labels to hide) does not contain a label, then hiding does not change this label.
 pub hidden_label-shown : (H : List (List ℕ)) (a : List ℕ) → ¬ Contains H a → hidden_label H a ≡ a
 hidden_label-shown H a none = grind (arith, contains_from, cases_Bool)
 
 hidden_label-internal : (H : List (List ℕ)) → hidden_label H internal ≡ internal
 hidden_label-internal H = grind arith
 
--- Hiding a label a second time changes nothing.
+-- If a label has been hidden with a hide list (a list of the labels to hide), then hiding it again with the same list
+-- changes nothing.
 pub hidden_label-again : (H : List (List ℕ)) (a : List ℕ) → hidden_label H (hidden_label H a) ≡ hidden_label H a
 hidden_label-again H a = let i = hidden_label-internal H in grind (arith, i)
 
--- If two lists contain the same labels, then hiding the labels of either list changes each label in the same way.
+-- Suppose that two hide lists (lists of the labels to hide) contain the same labels. Then hiding with the first list
+-- changes each label in the same way as hiding with the second list.
 pub hidden_label-same : (H K : List (List ℕ)) → ((a : List ℕ) → Contains H a ↔ Contains K a) → (a : List ℕ) →
     hidden_label H a ≡ hidden_label K a
 hidden_label-same H K same a =
     let e = contains_from H a in let f = contains_from K a in let g = found_from H a in let h = found_from K a in
     let s = same a in grind (arith, e, f, g, h, s)
 
--- If two lists contain the same labels, then hiding the labels of either list in a system gives the same system.
+-- Suppose that two hide lists (lists of the labels to hide) contain the same labels. If the labels of the first list
+-- are hidden in a system, the result is the same system as if the labels of the second list are hidden.
 pub Hide-same : (H K : List (List ℕ)) (A : System) → ((a : List ℕ) → Contains H a ↔ Contains K a) → Hide H A ≡ Hide K A
 Hide-same H K A same = λ i. record { first = A.first; states = A.states; transitions = all A.transitions i }
   where
@@ -60,7 +66,7 @@ Hide-same H K A same = λ i. record { first = A.first; states = A.states; transi
 pub contains_numbered : (labels : List (List ℕ)) (k : ℕ) (a : List ℕ) → IsLabelId labels k a → Contains labels a
 contains_numbered labels k a n = rw (← n.text) (Contains-get_or labels k [] n.below)
 
--- If the hide list (the labels to hide) is empty, then hiding does not change a system.
+-- If the hide list (the list of the labels to hide) is empty, then hiding does not change a system.
 pub Hide-none : (A : System) → Hide [] A ≡ A
 Hide-none A = λ i. record { first = A.first; states = A.states; transitions = all A.transitions i }
   where

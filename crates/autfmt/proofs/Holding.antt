@@ -12,8 +12,8 @@ use Rattle.autfmt.specs.declared.held.Held.{Held}
 use Rattle.autfmt.specs.Held.{AddsTriple, AreShown, Holds}
 use Rattle.autfmt.proofs.Hiding.{hidden_label-again}
 
--- If labels are added to a label table and the old labels keep their IDs, then each triple still denotes the same
--- transition.
+-- Suppose that triples of a source, a label ID and a target are stored. If labels are added to the label table, and the
+-- old labels keep their IDs, then each triple still denotes the same transition.
 pub kept_transitions :
     (n : ℕ) (old now : List (List ℕ)) (es : List Triple) → KeepsLabels old now → All (IsTriple (length old) n) es →
     map (transition_of now) es ≡ map (transition_of old) es
@@ -24,14 +24,15 @@ kept_transitions n old now (e ∷ es) keeps all =
     ap₂ ◌∷◌ (λ i. record { source = e.0; label = same i; target = e.2 })
     (kept_transitions n old now es keeps (All-tail (IsTriple (length old) n) e es all))
 
--- If labels are added to a label table, then the IDs in each triple are still valid.
+-- Suppose that triples of a source, a label ID and a target are stored. If labels are added to the label table, then
+-- each label ID in a triple is still the ID of a label in the table.
 pub kept_triples :
     (n : ℕ) (old now : List (List ℕ)) (es : List Triple) → KeepsLabels old now → All (IsTriple (length old) n) es →
     All (IsTriple (length now) n) es
 kept_triples n old now es keeps all = grind arith
 
--- If each label of the table is the label of some triple, then each label of the table is still the label of some
--- triple after one more triple is added.
+-- Suppose that each label of the label table occurs in some stored triple, and that one triple is added. Then each
+-- label of the new label table occurs in some stored triple.
 carried_more : (old now : Held) (s : ℕ) (a : List ℕ) (t : ℕ) → (added : AddsTriple old now s a t) →
     ((k : ℕ) → k < length old.labels → (x : Triple) × Contains old.transitions x × (label_of x ≡ k)) →
     (k : ℕ) → k < length now.labels → (x : Triple) × Contains now.transitions x × (label_of x ≡ k)
@@ -43,14 +44,14 @@ carried_more old now s a t added before k below =
       | inr new ↦ (triple, Contains-push old.transitions triple, sym new)
     ])
 
--- If one triple is added, the label table gets at most one more label.
+-- If one triple is added to the stored triples, then the label table gets at most one more label.
 one_label_more :
     (old now : Held) (s : ℕ) (a : List ℕ) (t : ℕ) → AddsTriple old now s a t → length now.labels ≤ length old.labels + 1
 one_label_more old now s a t added =
     let f = added.known (length old.labels) in let g = added.known (length old.labels + 1) in grind (arith, f, g)
 
--- If the triples denote the transitions es, and a triple for the transition e is added, then the triples denote the
--- transitions es followed by e.
+-- Suppose that the stored triples denote the transitions es, and that a triple for the transition e is added. Then the
+-- stored triples denote the transitions es followed by e.
 pub Holds-add : (H : List (List ℕ)) (n : ℕ) (old now : Held) (es : List Transition) (e : Transition) →
     Holds H n old es → IsAmong n e → AddsTriple old now e.source (hidden_label H e.label) e.target →
     Holds H n now (es ++ e ∷ [])
@@ -83,7 +84,7 @@ Holds-shown H n held es h k below =
     (all i (made d) (omega (arith, length-map held.transitions made)))) among in
     rw number at shown
 
--- If no triples and no labels are stored, then the stored triples denote the empty list of transitions.
+-- If no triples and no labels are stored yet, then the stored triples denote the empty list of transitions.
 pub Holds-new : (H : List (List ℕ)) (n : ℕ) (held : Held) → held.labels ≡ [] → held.transitions ≡ [] → Holds H n held []
 Holds-new H n held labels none = grind arith
 

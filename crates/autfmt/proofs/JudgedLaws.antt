@@ -1,5 +1,6 @@
--- This file proves under which conditions the bytes that have been read so far determine the first error of the whole
--- input.
+-- If an error is the first error of the input for all bytes that may follow, then the first error is known before the
+-- whole input has been read. This file proves for which bytes the first error is known, and for which bytes it still
+-- depends on the bytes that follow.
 use Rattle.std.proofs.Common.{◌≡◌, ◌⊎◌, ⊎_elim, ℕ, ◌+◌, ◌<◌, ◌≤◌, List, [], ◌∷◌, ◌++◌, length, refl, subst, inl, inr}
 use Rattle.std.proofs.Common.{sym, arith, All, rules}
 use Rattle.std.specs.List.{AllZip}
@@ -21,7 +22,7 @@ use Rattle.autfmt.proofs.FirstFaults.{HasLongLine, not_known}
 use Rattle.autfmt.proofs.FaultLaws.{FirstFault-unique, Reads-from_lines, Reads-no_fault}
 use Rattle.autfmt.specs.declared.line.TheConstants.{LONGEST_LINE}
 
--- If the first error of a text is that a line is too long, then the text has a line that is too long.
+-- If the first error of a text is `LineTooLong`, then the text has a line of more than 8192 bytes (`HasLongLine`).
 long_line : (bounds : Bounds) (text : List ℕ) (k : ℕ) → FirstFault bounds text (LineTooLong k) → HasLongLine text
 long_line bounds text k (no_line l e) = absurd cc
 long_line bounds text k (header line others l (HeaderFault.too_long e long)) = ([], others, line, l, long)
@@ -34,8 +35,8 @@ long_line bounds text k (behind m n es (line ∷ others) b (inl (less, EdgeFault
 long_line bounds text k (behind m n es (line ∷ others) b (inl (less, EdgeFault.target e d spelled low high))) = cc
 long_line bounds text k (behind m n es (line ∷ others) b (inr (full, e))) = absurd cc
 
--- Suppose that the bytes that have been read so far contain no line feed, and are not too long for a line. Then they do
--- not determine the first error of the whole input, because line 1 may still become too long.
+-- Suppose that the bytes that have been read so far contain no line feed, and are not too long for a line. Then the
+-- first error of the whole input still depends on the bytes that may follow, because line 1 may still become too long.
 pub no_judged_header : (bounds : Bounds) (given : List ℕ) (fault : Fault) → IsPart given →
     JudgedFault bounds given fault → ⊥
 no_judged_header bounds given fault part known =
@@ -43,11 +44,11 @@ no_judged_header bounds given fault part known =
     (record { whole = refl; lines = All-nil _; one = part.0 }) (All-nil IsShort) part.1
     (λ line long text l. header line [] l (HeaderFault.too_long refl long)) fault known
 
--- Suppose that the bytes that have been read so far are a correct header, correct transitions on whole lines, and at
--- most 8192 bytes (`LONGEST_LINE`) of the next line. Suppose also that the header declares further transitions, or that
--- there are no bytes of the next line. Then the bytes do not determine the first error of the whole input. If the
--- header declares further transitions, the next line may still become too long. Otherwise, the input has no error if it
--- ends here.
+-- Suppose that the bytes that have been read so far are a correct header, correct transitions on whole lines, and then
+-- at most 8192 bytes (`LONGEST_LINE`) of the next line. Suppose also that the header declares further transitions, or
+-- that there are no bytes of the next line. Then the first error of the whole input still depends on the bytes that may
+-- follow. If the header declares further transitions, the next line may still become too long. Otherwise, the input has
+-- no error if it ends here.
 pub no_judged_fault :
     (bounds : Bounds) (given line : List ℕ) (lines : List (List ℕ)) (rest : List ℕ) (f m n : ℕ) (es : List Transition)
     (fault : Fault) →
@@ -83,8 +84,9 @@ no_judged_fault bounds given line lines rest f m n es fault c good edges few sho
     step (inr full) = ⊎_elim (λ less. omega arith) (λ none. at_end rest none c (omega arith)) unjudged
 
 module _ (bounds : Bounds) (given more : List ℕ) where
-  -- If an input begins with correct lines, and further bytes are appended to it, then it still begins with these lines.
-  -- The line after them may become longer.
+  -- Suppose that an input consists of correct lines, a next line, and other lines. If further bytes are appended to the
+  -- input, then the longer input begins with the same correct lines. The next line of the longer input begins with the
+  -- next line of the old input.
   goes_on_well : (m n : ℕ) (es : List Transition) (line : List ℕ) (others : List (List ℕ)) →
       BeginsWell bounds given m n es (line ∷ others) →
       (tail : List ℕ) × (others' : List (List ℕ)) × BeginsWell bounds (given ++ more) m n es ((line ++ tail) ∷ others')
@@ -92,8 +94,8 @@ module _ (bounds : Bounds) (given more : List ℕ) where
       let (tail, others', l) = line_grows given more (b.header ∷ b.lines) others line b.whole in
       (tail, others', search rules)
 
-  -- If the first error of an input is that a line is too long, then this error remains the first error when further
-  -- bytes are appended.
+  -- Suppose that the first error of an input is that a line is too long. Then this error remains the first error if
+  -- further bytes are appended to the input.
   pub long_stays : (k : ℕ) → FirstFault bounds given (LineTooLong k) → FirstFault bounds (given ++ more) (LineTooLong k)
   long_stays k (no_line l e) = absurd cc
   long_stays k (header line others l (HeaderFault.too_long e long)) =
@@ -111,8 +113,8 @@ module _ (bounds : Bounds) (given more : List ℕ) where
   long_stays k (behind m n es (line ∷ others) b (inl (less, EdgeFault.target e d spelled low high))) = absurd cc
   long_stays k (behind m n es (line ∷ others) b (inr (full, e))) = absurd cc
 
-  -- If the first error of an input is that there is one line too many, then this error remains the first error when
-  -- further bytes are appended.
+  -- Suppose that the first error of an input is that a line follows the last transition that the header declares. Then
+  -- this error remains the first error if further bytes are appended to the input.
   pub extra_stays : (k : ℕ) → FirstFault bounds given (ExtraText k) → FirstFault bounds (given ++ more) (ExtraText k)
   extra_stays k (no_line l e) = absurd cc
   extra_stays k (header line others l bad) = absurd (grind arith)
@@ -122,9 +124,9 @@ module _ (bounds : Bounds) (given more : List ℕ) where
       let (tail, others', b') = goes_on_well m n es line others b in
       behind m n es ((line ++ tail) ∷ others') b' (inr (full, e))
 
--- Suppose that the bytes that have been read so far end with a line feed. Suppose also that they have an error if they
--- are taken as a whole input, and that this error is not `MissingEdges` (transitions are missing). Then this error is
--- the first error of the whole input, for all bytes that may follow.
+-- Suppose that the bytes that have been read so far end with a line feed. Suppose also that they have a first error if
+-- no bytes follow, and that this error is not `MissingEdges` (transitions are missing). Then this error is the first
+-- error of the whole input for all bytes that may follow.
 pub ended_known : (bounds : Bounds) (given : List ℕ) (ended : List (List ℕ)) (fault : Fault) → Cuts given ended [] →
     FirstFault bounds given fault →
     (ended ≡ [] → ⊥) → ((found : ℕ) → fault ≡ MissingEdges found → ⊥) → JudgedFault bounds given fault

@@ -27,12 +27,12 @@ wrong_numbers bounds f m n =
     (cond (leb n f) (Some FirstState)
     (cond (ltb bounds.states n) (Some TooManyStates) (cond (ltb bounds.transitions m) (Some TooManyTransitions) None)))
 
--- If there is an error in the numbers that a header declares, then the function `wrong_numbers` returns this error.
+-- If the numbers that a header declares have an error, then the function `wrong_numbers` returns this error.
 numbers_wrong : (bounds : Bounds) (f m n : ℕ) (fault : Fault) → NumbersFault bounds f m n fault →
     wrong_numbers bounds f m n ≡ Some fault
 numbers_wrong bounds f m n fault h = grind arith
 
--- If a header is correct, there is no error in the numbers that it declares.
+-- If a header is correct, then the numbers that it declares have no error.
 pub good_numbers : (bounds : Bounds) (line : List ℕ) (f m n : ℕ) → GoodHeader bounds line f m n →
     wrong_numbers bounds f m n ≡ None
 good_numbers bounds line f m n g = grind arith
@@ -61,7 +61,7 @@ pub HeaderFault-unique : (bounds : Bounds) (line : List ℕ) (f g : Fault) → H
 HeaderFault-unique bounds line f g a b =
     same_Some f g (sym (HeaderFault-is bounds line f a) ∙ HeaderFault-is bounds line g b)
 
--- If line 1 is a correct header, then it has no error.
+-- If line 1 is a correct header (`GoodHeader`), then no error applies to line 1 (`HeaderFault`).
 pub GoodHeader-no_fault : (bounds : Bounds) (line : List ℕ) (f m n : ℕ) (fault : Fault) → GoodHeader bounds line f m n →
     HeaderFault bounds line fault → ⊥
 GoodHeader-no_fault bounds line f m n fault good bad =
@@ -74,8 +74,9 @@ pub GoodHeader-unique : (bounds : Bounds) (line : List ℕ) (f m n f' m' n' : �
     GoodHeader bounds line f' m' n' → (f ≡ f') × (m ≡ m') × (n ≡ n')
 GoodHeader-unique bounds line f m n f' m' n' g g' = one_header line f m n f' m' n' g.header g'.header
 
--- Suppose that a correct header can be read as the numbers f, m, n and as the numbers f', m', n'. If a property holds
--- for m and n, then the property holds for m' and n', because a header can be read in only one way.
+-- Suppose that a line is a correct header with the numbers f, m and n, and also a correct header with the numbers f',
+-- m' and n'. If a property holds for m and n, then it holds for m' and n', because a header can be read in only one
+-- way.
 pub same_header :
     (bounds : Bounds) (line : List ℕ) (f m n f' m' n' : ℕ) (P : ℕ → ℕ → Type 0) → GoodHeader bounds line f m n →
     GoodHeader bounds line f' m' n' → P m n → P m' n'
@@ -106,8 +107,8 @@ header_judged bounds line = elim (cases_lt LONGEST_LINE (length line)) [
   ]
 ]
 
--- `wrong_ends n k s t` is the error in the source s or the target t of the transition on line k, or None if both s and
--- t are less than the number n of states.
+-- `wrong_ends n k s t` is the error of the transition on line k if its source s or its target t is not less than the
+-- number n of states. It is `None` if both s and t are less than n.
 abbrev wrong_ends : ℕ → ℕ → ℕ → ℕ → Option Fault
 wrong_ends n k s t = cond (leb n s) (Some (SourceRange k)) (cond (leb n t) (Some (TargetRange k)) None)
 
@@ -118,8 +119,8 @@ edge_fault n k line =
     (elim (transition_at line) [ None ↦ Some (BadEdge k) | Some x ↦ wrong_ends n k x.0 x.2 ])
 
 module _ (n k : ℕ) (line : List ℕ) where
-  -- If the line denotes a transition, then the only possible error of the line is an error in the source or the target
-  -- of this transition (`wrong_ends`).
+  -- Suppose that the line denotes a transition. Then the line has no error except for an error in the source or the
+  -- target of this transition (`wrong_ends`).
   spelled_fault : (e : Transition) → SpellsTransition line e → edge_fault n k line ≡ wrong_ends n k e.source e.target
   spelled_fault e (s, h) =
       rw (le-ltb LONGEST_LINE (length line) s, transition_at-again line e.source e.label e.target h) refl
@@ -136,8 +137,8 @@ module _ (n k : ℕ) (line : List ℕ) where
   pub EdgeFault-unique : (f g : Fault) → EdgeFault n k line f → EdgeFault n k line g → f ≡ g
   EdgeFault-unique f g a b = same_Some f g (sym (EdgeFault-is f a) ∙ EdgeFault-is g b)
 
-  -- If the line denotes a transition whose source and target are less than the number n of states, then the line has no
-  -- error.
+  -- If the line denotes a transition whose source and target are less than the number n of states, then no error
+  -- applies to the line (`EdgeFault`).
   pub GoodEdge-no_fault : (e : Transition) (fault : Fault) → SpellsAmong n line e → EdgeFault n k line fault → ⊥
   GoodEdge-no_fault e fault good bad =
       let right : wrong_ends n k e.source e.target ≡ None = grind (arith, nat_tests) in

@@ -40,8 +40,8 @@ unfolding past_des
 des-again rest =
     rw (past-again 100 (101 ∷ 115 ∷ rest) refl, past-again 101 (115 ∷ rest) refl, past-again 115 rest refl) refl
 
--- If the byte c is read from a line, and the bytes after it consist of tokens, then the line consists of c and these
--- tokens.
+-- Suppose that the byte c is read from a line after any number of blanks, and that the bytes after c consist of tokens.
+-- Then the tokens of the line are c and these tokens.
 mark-takes : (c : ℕ) (tokens : List (List ℕ)) (line rest : List ℕ) → past c (after_blanks line) ≡ Some rest →
     Spaced tokens rest → Spaced ((c ∷ []) ∷ tokens) line
 mark-takes c tokens line rest e s = Spaced-from (c ∷ []) tokens line rest (past-takes c (after_blanks line) rest e) s
@@ -196,7 +196,7 @@ transition_at-again line s a t h =
     (rw (number_then-again 44 tokens bracket.1 h.0 s refl refl refl h.3 source)
     (rw (ending_at-again source.4.1 a t (h.1, h.2, h.4, h.5, source.4.4)) refl))
 
--- ---- Reading a line of a hide list (the labels to hide)
+-- ---- Reading a line of a hide list (a file with the labels to hide)
 
 pub hide_line_at-takes : (line a : List ℕ) → hide_line_at line ≡ Some a → HideLine line a
 unfolding hide_line_at

@@ -1,4 +1,4 @@
--- General lemmas about lists, prefixes and pairs of related lists.
+-- General lemmas about lists, about prefixes of lists, and about two lists that are related element by element.
 use Rattle.std.proofs.Common.{rules, ◌≡◌, ℕ, ◌+◌, ◌-◌, ◌≤◌, List, [], ◌∷◌, ◌++◌, All, length, take, drop, refl, sym}
 use Rattle.std.proofs.Common.{◌∙◌, ap, ap₂, arith}
 use Rattle.std.proofs.lemmas.List.{append_assoc, take-append-drop, length-drop, take-take, length-take-le}
@@ -6,17 +6,19 @@ use Rattle.std.specs.List.{AllZip}
 use Rattle.std.proofs.lemmas.List.Elements.{All-nil, All-cons, All-head, All-tail}
 use Rattle.std.proofs.Math.Seq.{take-length, take-append-add}
 
--- The first `length xs - n` elements of the sublist of xs that begins at the index n are this whole sublist.
+-- If the first n elements of the list xs are dropped, then at most `length xs - n` elements remain. So taking `length
+-- xs - n` elements of the remaining list takes all of them.
 pub rest_of : {A : Type 0} → (n : ℕ) (xs : List A) → take (length xs - n) (drop n xs) ≡ drop n xs
 rest_of n xs = ap (λ k. take k (drop n xs)) (sym (length-drop n xs)) ∙ take-length (drop n xs)
 
--- If a list consists of two parts, then the first n elements of the second part can be moved to the end of the first
--- part.
+-- Suppose that a list consists of the parts `front` and `rest`. Then the list stays the same if the first n elements of
+-- `rest` are moved to the end of `front`.
 pub front_more : {A : Type 0} → (front rest all : List A) (n : ℕ) → all ≡ front ++ rest →
     all ≡ front ++ take n rest ++ take (length rest - n) (drop n rest)
 front_more front rest all n is = grind (arith, take-append-drop, append_assoc, rest_of)
 
--- If a list `run` was written at the index `at` of a list, then the first n elements of `run` are at this index.
+-- Suppose that the list `run` was written into a list from the index `at` on. Then the elements from the index `at` on
+-- begin with the first n elements of `run`.
 pub begins_with : {A : Type 0} → (at n : ℕ) (run old new : List A) → at ≤ length old → n ≤ length run →
     take (at + length run) new ≡ take at old ++ run → take (at + n) new ≡ take at old ++ take n run
 begins_with at n run old new room short is =
@@ -24,16 +26,16 @@ begins_with at n run old new room short is =
     let some = take-take (at + n) (at + length run) new (omega arith) in
     cc (take-append-add (take at old) run n)
 
--- If R x y implies P x, and two lists are related element by element by R, then the property P holds for each element
--- of the first list.
+-- Suppose that R x y implies P x, and that two lists are related element by element by R. Then each element of the
+-- first list has the property P.
 pub AllZip-firsts : {A B : Type 0} (R : A → B → Type 0) (P : A → Type 0) → ((x : A) (y : B) → R x y → P x) →
     (xs : List A) (ys : List B) → AllZip R xs ys → All P xs
 AllZip-firsts R P each [] ys zipped = All-nil P
 AllZip-firsts R P each (a ∷ xs) [] zipped = absurd zipped
 AllZip-firsts R P each (a ∷ xs) (b ∷ ys) zipped = search (rules, All-cons, (AllZip-firsts R P each xs ys zipped.1))
 
--- If each element is related to at most one element by R, then each list is related, element by element, to at most one
--- list.
+-- Suppose that R relates each element to at most one element. Then each list is related to at most one list, element by
+-- element.
 pub AllZip-unique :
     {A B : Type 0} (R : A → B → Type 0) → ((x : A) (y z : B) → R x y → R x z → y ≡ z) → (xs : List A) (ys zs : List B) →
     AllZip R xs ys → AllZip R xs zs → ys ≡ zs
@@ -41,7 +43,8 @@ AllZip-unique R one [] [] [] a b = refl
 AllZip-unique R one (x ∷ xs) (y ∷ ys) (z ∷ zs) a b = ap₂ ◌∷◌ (one x y z a.0 b.0) (AllZip-unique R one xs ys zs a.1 b.1)
 AllZip-unique R one xs ys zs a b = grind arith
 
--- If all elements of a list have the property P, then an element x in the middle of the list has it.
+-- Suppose that a list consists of the list xs, the element x and the list ys, and that all elements of the list have
+-- the property P. Then x has the property P.
 pub All-between : {A : Type 0} (P : A → Type 0) (xs : List A) (x : A) (ys : List A) → All P (xs ++ x ∷ ys) → P x
 All-between P [] x ys all = All-head P x ys all
 All-between P (a ∷ xs) x ys all = All-between P xs x ys (All-tail P a (xs ++ x ∷ ys) all)

@@ -5,8 +5,8 @@ use Rattle.autfmt.specs.Texts.{Cuts, Lines}
 use Rattle.autfmt.specs.Cutter.{with_line_feeds}
 use Rattle.autfmt.proofs.Cutting.{Lines-behind, Lines-unique, first_begins, lines_of}
 
--- If all lines of a text have ended, and further bytes are appended, then the lines of the result are the lines of the
--- text, followed by the lines of these bytes.
+-- Suppose that a text is empty or ends with a line feed. If further bytes are appended to the text, then the lines of
+-- the result are the lines of the text, followed by the lines of these bytes.
 pub ended_go_on : (given more : List ℕ) (ended lines : List (List ℕ)) → Cuts given ended [] → Lines given lines →
     Lines (given ++ more) (lines ++ (lines_of more).0)
 ended_go_on given more ended lines c l =
@@ -14,7 +14,8 @@ ended_go_on given more ended lines c l =
     rw (same, c.whole, append-nil (with_line_feeds ended)) (Lines-behind ended more _ c.lines (lines_of more).1)
 
 -- Suppose that bytes are appended to the last line of a list of lines, and that further lines are then appended to the
--- list. Then each line of the old list is a prefix of the line at the same index of the new list.
+-- list. Then each line of the old list is a prefix of the line at the same index of the new list. The lines before it
+-- are the same in both lists.
 line_stays :
     (front ended others more : List (List ℕ)) (line rest tail : List ℕ) → front ++ line ∷ others ≡ ended ++ rest ∷ [] →
     (t : List ℕ) × (os : List (List ℕ)) × (ended ++ (rest ++ tail) ∷ more ≡ front ++ (line ++ t) ∷ os)

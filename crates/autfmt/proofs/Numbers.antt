@@ -25,13 +25,14 @@ blanks_no_digits b blank = grind arith
 
 -- ---- Only decimal numbers can be read
 
--- If the digit d is appended to the decimal digits of a number v, the result is the decimal digits of ten times v plus
--- d.
+-- If the digit d is appended to the decimal digits of a number v that is not 0, then the result is the decimal digits
+-- of 10 * v + d.
 pub decimal-more : (v d : ℕ) → 0 < v → v < 10 ^ 18 → d < 10 → decimal (10 * v + d) ≡ decimal v ++ ((48 + d) ∷ [])
 decimal-more v d positive small digit = grind (arith, decimal_step)
 
--- `Took v bytes n rest` holds if the decimal digits of the number n are the digits of v, followed by the digits that
--- were read from the bytes. The bytes `rest` are the bytes after these digits.
+-- `Took v bytes n rest` holds if a number was read from the list `bytes` after the digits of v. The decimal digits of
+-- the number n are the digits of v, followed by the digits that were read from `bytes`. The list `rest` has the bytes
+-- after these digits.
 record Took (v : ℕ) (bytes : List ℕ) (n : ℕ) (rest : List ℕ) : Type 0 where
   digits : List ℕ
   parts : bytes ≡ digits ++ rest
@@ -84,9 +85,9 @@ number_at-takes (b ∷ bytes) n rest e =
 
 -- ---- Every decimal number can be read
 
--- `Leads n digits` says that reading the bytes `digits` leads to the number n, if n is less than 10 ^ 10. More
--- precisely, reading `digits` and any further bytes (`number_at`) has the same result as going on from the number n
--- with the further bytes (`more_digits`).
+-- `Leads n digits` states how the number n is read from the bytes `digits`, if n is less than 10 ^ 10. Reading a number
+-- from `digits` and any further bytes (`number_at`) has the same result as continuing with the number n and the further
+-- bytes (`more_digits`).
 abbrev Leads : ℕ → List ℕ → Type 0
 Leads n digits = n < 10 ^ 10 → (tail : List ℕ) → number_at (digits ++ tail) ≡ more_digits n tail
 

@@ -16,8 +16,8 @@ use Rattle.autfmt.specs.Grammar.{is_letter, is_plain}
 use Rattle.autfmt.specs.Reading.{◌>>=◌, is_word, word_len, plain_at, is_label}
 use Rattle.autfmt.proofs.Blanks.{Stops, FailsBlanks}
 
--- If applying the function f to the value of the option r results in `Some y`, then r has a value, and f returns `Some
--- y` for this value.
+-- Suppose that the function f is applied to the value of the option r, and that the result is `Some y`. Then r has a
+-- value, and f returns `Some y` for this value.
 pub bind_some : {A B : Type 0} (r : Option A) (f : A → Option B) (y : B) → (r >>= f) ≡ Some y →
     (x : A) × (r ≡ Some x) × (f x ≡ Some y)
 bind_some (Some x) f y e = (x, refl, e)
@@ -56,8 +56,9 @@ blanks_no_words b (inr (inr e)) = rw e refl
 words_printable : (bs : List ℕ) → list_all is_word bs ≡ true → All (λ b. (0x20 ≤ b) × (b ≤ 0x7E)) bs
 words_printable bs e = search (rules, All-weaker, word-range, AllPass-from_list_all)
 
--- `Plain b bs` holds if the byte b, followed by the bytes bs, is a label that may be written without quotation marks: b
--- is a letter, all bytes in bs are letters or digits, and the label has at most 8000 bytes.
+-- `Plain b bs` holds if the byte b, followed by the bytes bs, is a label that may be written without quotation marks.
+-- Three conditions must hold. First, b is a letter. Second, all bytes in bs are letters or digits. Third, the label has
+-- at most 8000 bytes.
 pub record Plain (b : ℕ) (bs : List ℕ) : Type 0 where
   pub letter : is_letter b ≡ true
   pub words : list_all is_word bs ≡ true

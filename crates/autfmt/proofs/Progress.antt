@@ -1,4 +1,4 @@
--- Lemmas about writing lines to a sink (what an output is written to) through a buffer.
+-- The lemmas in this file are about writing lines to a sink (an object to which an output is written) through a buffer.
 use Rattle.std.proofs.Common.{◌≡◌, ℕ, ◌+◌, ◌<◌, List, [], ◌++◌, length, map, get_or, take, drop, refl}
 use Rattle.std.proofs.Common.{sym, ap, ◌∙◌, subst, Option, append_assoc, arith}
 use Rattle.std.specs.Io.KnownBytes.{Appends}
@@ -13,32 +13,33 @@ use Rattle.autfmt.specs.Stream.{AppendsPrefix}
 use Rattle.autfmt.specs.LabelTexts.{from_source, written_lines}
 use Rattle.autfmt.specs.Written.{written_transition}
 
--- If bytes of the buffer are written to the sink (what the output is written to) and removed from the buffer, then the
--- sink and the buffer together still contain all bytes.
+-- Suppose that bytes of the buffer are written to the sink (the object to which the output is written) and removed from
+-- the buffer. Then the bytes that were written, followed by the bytes in the buffer, are still the same bytes.
 pub goes_on : {old mid new : Option (List ℕ)} {waiting later bytes : List ℕ} → Progress old mid waiting bytes →
     Progress mid new later waiting → Progress old new later bytes
 goes_on {old} {mid} {new} {waiting} {later} p q =
     grind (arith, p.front, q.front, Appends-trans, p.gained, q.gained, p.whole, q.whole, append_assoc)
 
--- If further bytes are appended to the buffer, then the sink (what the output is written to) and the buffer together
--- contain these bytes too.
+-- Suppose that `bytes` are the bytes that were written to the sink (the object to which the output is written),
+-- followed by the bytes in the buffer. If further bytes are appended to the buffer, then they are also appended to
+-- `bytes`.
 pub waits_too : {old new : Option (List ℕ)} {waiting bytes : List ℕ} (more : List ℕ) → Progress old new waiting bytes →
     Progress old new (waiting ++ more) (bytes ++ more)
 waits_too {waiting = waiting} more p = grind (arith, p.front, p.gained, p.whole, append_assoc)
 
--- Before anything is written to the sink (what the output is written to), all bytes are in the buffer.
+-- Before anything is written to the sink (the object to which the output is written), all bytes are in the buffer.
 pub nothing_put : (w : Option (List ℕ)) (bytes : List ℕ) → Progress w w bytes bytes
 nothing_put w bytes = record { front = []; gained = Appends-nil w; whole = refl }
 
--- If writing the buffer to the sink (what the output is written to) fails, then the bytes that the sink has received
--- are a prefix of the whole output so far.
+-- Suppose that writing the bytes in the buffer to the sink (the object to which the output is written) fails. Then the
+-- bytes that were written to the sink are a prefix of the whole output so far.
 pub beginning_put : {old mid : Option (List ℕ)} {waiting bytes : List ℕ} (new : Option (List ℕ)) →
     Progress old mid waiting bytes → AppendsPrefix mid new waiting → AppendsPrefix old new bytes
 beginning_put {old} {mid} new p (front, back, is, put) =
     (p.front ++ front, back, rw (p.whole, is, append_assoc) refl, Appends-trans old mid new p.front front p.gained put)
 
--- If the bytes that were written are a prefix of a list, then they are also a prefix of each longer list that begins
--- with this list.
+-- If the bytes that were written are a prefix of a list of bytes, then they are also a prefix of each longer list that
+-- begins with this list.
 pub longer : {bytes : List ℕ} (old new : Option (List ℕ)) (rest : List ℕ) → AppendsPrefix old new bytes →
     AppendsPrefix old new (bytes ++ rest)
 longer old new rest (front, back, is, put) = (front, back ++ rest, rw (is, append_assoc) refl, put)
@@ -69,9 +70,9 @@ module _ (entries : List Entry) (source : ℕ) (row : List (ℕ × ℕ)) where
       (transition_of (texts entries) (from_source source (get_or row i d)))
   one_line_more i d h = rw (map_more (from_source source) row i d h, lines-append entries, append-nil) refl
 
-  -- Suppose that the sink (what the output is written to) and the buffer together contain the lines of the first i
-  -- transitions. If the line of the transition at the index i is appended to the buffer, then the sink and the buffer
-  -- together contain the lines of the first i + 1 transitions.
+  -- Suppose that the bytes that were written to the sink (the object to which the output is written), followed by the
+  -- bytes in the buffer, are the lines of the first i transitions of a row. If the line of the transition at the index
+  -- i of this row is appended to the buffer, then they are the lines of the first i + 1 transitions.
   pub line_waits : {old mid new : Option (List ℕ)} {waiting earlier label : List ℕ} (start : List ℕ) (i : ℕ) (d : ℕ × ℕ)
       → i < length row → Progress old mid waiting (start ++ lines_to i) → Progress mid new earlier waiting
       → label ≡ text_of (texts entries) (get_or row i d).0 → (now : List ℕ) → now ≡ earlier ++ written_transition
@@ -81,8 +82,9 @@ module _ (entries : List Entry) (source : ℕ) (row : List (ℕ × ℕ)) where
       let line = written_transition (transition_of (texts entries) (from_source source (get_or row i d))) in
       rw (is, named, one_line_more i d h, ← append_assoc start (lines_to i) line) (waits_too line (goes_on p q))
 
-  -- A row has the outgoing transitions of one state. If writing to the sink (what the output is written to) fails after
-  -- the first i lines of a row, then a prefix of the lines of the whole row was written.
+  -- A row has the outgoing transitions of one state. Suppose that the first i lines of a row have been appended to the
+  -- buffer, and that writing the buffer to the sink (the object to which the output is written) fails. Then the bytes
+  -- that were written to the sink are a prefix of the output up to the end of this row.
   pub row_begun : {old mid : Option (List ℕ)} {waiting : List ℕ} (new : Option (List ℕ)) (start : List ℕ) (i : ℕ)
       → Progress old mid waiting (start ++ lines_to i) → AppendsPrefix mid new waiting
       → AppendsPrefix old new (start ++ written_lines entries (map (from_source source) row))

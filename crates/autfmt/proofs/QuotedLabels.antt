@@ -39,7 +39,7 @@ HasNoQuote-spaced (token ∷ tokens) line none s =
 -- ---- The last quotation mark
 
 -- `before b r` is the result of the function `last_quote` for a list that begins with the byte b. The argument r is the
--- result of `last_quote` for the list without this byte.
+-- result of `last_quote` for the other bytes of this list.
 abbrev before : ℕ → Option ℕ → Option ℕ
 before b (Some i) = Some (i + 1)
 before b None = cond (b == 34) (Some 0) None
@@ -106,8 +106,8 @@ pub quoted_at-none : (bytes : List ℕ) → ((k : ℕ) → k < length bytes → 
 unfolding quoted_at
 quoted_at-none bytes none = rw (last_quote-none_at bytes none) refl
 
--- If the last quotation mark is at the index i, then the function `quoted_at` tests whether the bytes before this mark
--- are a label.
+-- Suppose that the last quotation mark of a list of bytes is at the index i. Then the function `quoted_at` tests
+-- whether the bytes before this mark are a label.
 pub quoted_at-found : (bytes : List ℕ) (i : ℕ) → i < length bytes → get_or bytes i 0 ≡ 34
     → ((k : ℕ) → i < k → k < length bytes → get_or bytes k 0 ≢ 34)
     → quoted_at bytes ≡ cond {A = Option (List ℕ × List ℕ)} (is_label (take i bytes))

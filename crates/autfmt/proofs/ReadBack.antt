@@ -1,5 +1,5 @@
--- The text that is written for a system denotes this system, with its transitions in the order in which they are
--- written.
+-- The text that is written for a system can be read again. The result is the same system, with its transitions in the
+-- order in which they are written.
 use Rattle.std.proofs.Common.{◌≡◌, ◌≢◌, ℕ, leb, rules, ◌+◌, ◌%◌, ◌<◌, ◌≤◌, ◌^◌, true, List, [], ◌∷◌, ◌++◌, length, map}
 use Rattle.std.proofs.Common.{codes, decimal, refl, sym, subst, inl, inr, arith, append_assoc, length-append}
 use Rattle.std.proofs.lemmas.Grind.{common_steps}
@@ -34,8 +34,8 @@ one_line bs seen = All-weaker (λ b. 32 ≤ b) (λ b. b ≢ 10) (λ b h e. absur
 pub visible_append : {xs ys : List ℕ} → Visible xs → Visible ys → Visible (xs ++ ys)
 visible_append a b = record { each = All-append (λ b. 32 ≤ b) _ _ a.each b.each }
 
--- If the test whether a byte is at least 32 returns true for each byte of bs, then `Visible bs` holds. The lemma is
--- used for the tokens that the grammar fixes, such as `des` and the comma.
+-- Suppose that the test `leb 32` returns true for each byte of bs. Then `Visible bs` holds, which means that each byte
+-- of bs is at least 32. The lemma is used for the tokens that the grammar fixes, such as `des` and the comma.
 pub literal : (bs : List ℕ) → list_all (λ b. leb 32 b) bs ≡ true → Visible bs
 literal bs h = search (rules, All-weaker, AllPass-from_list_all)
 
@@ -53,12 +53,12 @@ seen_spelling spelling a (inl h) = let is = IsLabel-plain a h.0 in rw h.1 (seen_
 seen_spelling spelling a (inr h) =
     grind (arith, common_steps, literal, codes, length-append, visible_append, seen_label, h.0.short)
 
--- The bytes that are written for a label are one of the written forms of this label.
+-- The bytes that are written for a label are one of the forms that the grammar allows for this label.
 spells_label : (a : List ℕ) → IsLabel a → Label (written_label a) a
 spells_label a is = search rules
 
--- `spelled_line s b spelling d t` is the line of a transition from the state s to the state t. The bytes b and d are
--- the blanks after the two commas of the line.
+-- `spelled_line s b spelling d t` is the line of a transition from the state s to the state t. The bytes `spelling` are
+-- the written form of the label. The bytes b and d are the blanks after the two commas of the line.
 abbrev pub spelled_line : ℕ → List ℕ → List ℕ → List ℕ → ℕ → List ℕ
 spelled_line s b spelling d t =
     codes "(" ++ decimal s ++ codes "," ++ b ++ spelling ++ codes "," ++ d ++ decimal t ++ codes ")"
@@ -81,7 +81,8 @@ spelled_line-short s t b d end spelling a source target before between behind is
     let third = seen_spelling spelling a is in
     simp length-append (omega arith)
 
--- `IsSpaced tokens line` holds if the line consists of the tokens, with blanks between them.
+-- `IsSpaced tokens line` holds if the line consists of the tokens in their order, with any number of blanks before,
+-- between and after them.
 pub record IsSpaced (tokens : List (List ℕ)) (line : List ℕ) : Type 0 where
   pub spaced : Spaced tokens line
 
@@ -95,8 +96,8 @@ none = All-nil IsBlank
 pub a_space : Blanks (32 ∷ [])
 a_space = All-from_recursion IsBlank (32 ∷ []) (inl refl, tt)
 
--- If a comma, blanks and a token are put in front of the rest of a line, then the tokens of the result are the comma,
--- this token, and the tokens of the rest.
+-- Suppose that a comma, blanks and a token are put in front of the rest of a line. Then the tokens of the result are
+-- the comma, this token, and the tokens of the rest.
 after_comma : {rest : List ℕ} {tokens : List (List ℕ)} (blanks token : List ℕ) → Blanks blanks → IsSpaced tokens rest →
     IsSpaced (codes "," ∷ token ∷ tokens) (codes "," ++ (blanks ++ token ++ rest))
 after_comma blanks token blank s = next [] (codes ",") none (next blanks token blank s)

@@ -13,8 +13,8 @@ use Rattle.autfmt.specs.Outcomes.{ReadsTo, AnswersRead}
 use Rattle.autfmt.specs.ReadSoFar.{HoldsText}
 use Rattle.autfmt.proofs.Holding.{Holds-length}
 
--- If the reader returns an error of the input, and the contract of the source (what the input is read from) states
--- which bytes it contains, then this error is the first error of the input.
+-- Suppose that the contract of the source (the object from which the input is read) states the whole input. If the
+-- reader returns an error in the contents of the input, then this error is the first error of the input.
 pub told_fault :
     (bounds : Bounds) (H : List (List ℕ)) (old new : Option (List ℕ)) (failures : ℕ) (result : Result Grouped Fault) →
     AnswersRead bounds H old new failures result →

@@ -39,31 +39,31 @@ HasCut-fresh old e = subst (λ (c : Cutting). HasCut [] [] c) (sym e) HasCut-new
 pub fresh_goes_on : (old : Cutting) → old ≡ fresh → old.over ≡ true → ⊥
 fresh_goes_on old e over = let f = ap (λ (c : Cutting). c.over) e in cc
 
--- The definition `ReadSoFar` says which transitions have been read so far. Whether `ReadSoFar` holds does not depend on
--- the last line that the line splitter has returned.
+-- `ReadSoFar` says which transitions have been read so far. If `ReadSoFar` holds for a state of the line splitter, then
+-- it also holds for each other state that differs only in the line that the line splitter has returned last.
 pub whatever_line :
     (bounds : Bounds) (given line other ahead : List ℕ) (over : Bool) (p : Promise) (es : List Transition) →
     ReadSoFar bounds given (record { line = line; ahead = ahead; over = over }) p es →
     ReadSoFar bounds given (record { line = other; ahead = ahead; over = over }) p es
 whatever_line bounds given line other ahead over p es so_far = search rules
 
--- Suppose that a property holds for all bytes that a source (what the input is read from) may still return. If the
--- contract of the source states which bytes the source will return, then the property holds for these bytes.
+-- Suppose that a property holds for all bytes that a source (the object from which the input is read) may still return.
+-- If the contract of the source states which bytes the source will return, then the property holds for these bytes.
 pub if_told : (rest : Option (List ℕ)) (P : List ℕ → Type 0) → ((more : List ℕ) → rest ≡ Some more → P more) →
     IfSome rest P
 if_told rest P holds = grind arith
 
--- If a source (what the input is read from) has ended, it has no further bytes.
+-- If a source (the object from which the input is read) has ended, it has no further bytes.
 pub none_to_come : (rest : Option (List ℕ)) (more : List ℕ) → rest ≡ Some more → IsAtEnd rest → more ≡ []
 none_to_come rest more e end = subst (λ (o : Option (List ℕ)). IsAtEnd o) e end
 
 -- Assume that line 1 is read by a line splitter that has not taken any bytes before.
 module _ (bounds : Bounds) (old : Cutting) (got : List ℕ) (rest : Option (List ℕ)) (failures : ℕ)
     (new : old ≡ fresh) where
-  -- Suppose that the source (what the input is read from) fails before line 1 has been read to its end. Then the reader
-  -- may return `Device`, which is the error of a failed source. The contract allows this error only if the bytes that
-  -- were read do not determine the first error of the input. They do not determine it, because line 1 may still become
-  -- too long.
+  -- Suppose that the source (the object from which the input is read) fails before line 1 has been read to its end.
+  -- Then the reader may return `Device`, which is the error of a failed source. The contract allows this error only if
+  -- the first error of the input still depends on the bytes that may follow. It depends on them, because line 1 may
+  -- still become too long.
   pub header_failed : failures ≡ 1 → IsPart (old.ahead ++ got) → Refuses bounds got rest failures Device
   header_failed failed part = failed_source failed refl (λ f. no_judged_header bounds got f (rw new at part))
 
@@ -78,7 +78,8 @@ module _ (bounds : Bounds) (old : Cutting) (got : List ℕ) (rest : Option (List
       HasCut-too_long [] got [] old (HasCut-fresh old new) (fresh_goes_on old new) more long in
       header line others l (HeaderFault.too_long refl big)))
 
-  -- The result of checking line 1 is either a correct header or the first error of the input.
+  -- If the line splitter has split off line 1, then the result of checking this line is correct: it is either a correct
+  -- header or the first error of the input.
   pub header_answer :
       (now : Cutting) (result : Result Promise Fault) → failures ≡ 0 → (now.over ≡ true → IsAtEnd rest) →
       CutsLine (old.ahead ++ got) now → IfOk result (λ p. GoodHeader bounds now.line p.first p.transitions p.states) →
@@ -99,7 +100,8 @@ module _ (bounds : Bounds) (old : Cutting) (got : List ℕ) (rest : Option (List
       let (others, l) = HasCut-lines got more (now.line ∷ []) now s (λ over. none_to_come rest more told (end over)) in
       header now.line others l bad))
 
--- If an allocation fails after a correct header and further lines, then the reader may return `Memory`.
+-- Suppose that a correct header has been read, that any number of lines has been read after it, and that an allocation
+-- then fails. Then the reader may return `Memory`.
 pub no_memory_behind :
     (bounds : Bounds) (given first : List ℕ) (lines : List (List ℕ)) (at : Cutting) (f m n : ℕ) (rest : Option (List ℕ))
     (failures : ℕ) → HasCut given (first ∷ lines) at → GoodHeader bounds first f m n → failures ≡ 0 →
@@ -111,15 +113,15 @@ no_memory_behind bounds given first lines at f m n rest failures cut good sound 
     let (others, l) = HasCut-lines given more (first ∷ lines) at cut (λ over. none_to_come rest more told (end over)) in
     (first, lines ++ others, f, m, n, l, good)))
 
--- Assume that the reader has read some lines, and then reads the bytes `got` from its source (what the input is read
--- from).
+-- Assume that the reader has read some lines, and then reads the bytes `got` from its source (the object from which the
+-- input is read).
 module _ {bounds : Bounds} {given : List ℕ} {old : Cutting} {p : Promise} {es : List Transition}
     (got : List ℕ) (so_far : ReadSoFar bounds given old p es) where
   abbrev before : List (List ℕ)
   before = so_far.header ∷ so_far.lines
 
-  -- If all transitions that the header declares have been read and the input has ended, then the input denotes a system
-  -- with these transitions.
+  -- Suppose that all transitions that the header declares have been read, and that no bytes follow. Then the input
+  -- denotes a system with these transitions.
   pub text_ends : length es ≡ p.transitions → old.ahead ++ got ≡ [] →
       Reads bounds (given ++ got) (record { first = p.first; states = p.states; transitions = es })
   text_ends count none =
@@ -127,10 +129,10 @@ module _ {bounds : Bounds} {given : List ℕ} {old : Cutting} {p : Promise} {es 
       Reads-from_lines bounds (given ++ got) so_far.header so_far.lines p.first p.transitions p.states es l so_far.good
       so_far.spelled count
 
-  -- Suppose that the source (what the input is read from) fails before the next line has been read to its end. Then the
-  -- reader may return `Device`, which is the error of a failed source. The contract allows this error only if the bytes
-  -- that were read do not determine the first error of the input. They do not determine it, because the next line may
-  -- still become too long.
+  -- Suppose that the source (the object from which the input is read) fails before the next line has been read to its
+  -- end. Then the reader may return `Device`, which is the error of a failed source. The contract allows this error
+  -- only if the first error of the input still depends on the bytes that may follow. It depends on them, because the
+  -- next line may still become too long.
   pub transition_failed : (rest : Option (List ℕ)) (failures : ℕ) → length es ≤ p.transitions →
       (length es < p.transitions) ⊎ (length (old.ahead ++ got) ≡ 0) → failures ≡ 1 → (old.over ≡ true → ⊥) →
       IsPart (old.ahead ++ got) → Refuses bounds (given ++ got) rest failures Device
@@ -141,17 +143,17 @@ module _ {bounds : Bounds} {given : List ℕ} {old : Cutting} {p : Promise} {es 
       p.transitions p.states es f
       c so_far.good so_far.spelled few part.1 unjudged)
 
-  -- Suppose that the source (what the input is read from) fails after the last transition that the header declares.
-  -- Then the reader may return `Device`, which is the error of a failed source. The contract allows this error only if
-  -- the bytes that were read do not determine the first error of the input. They do not determine it, because the input
-  -- has no error unless another line follows.
+  -- Suppose that the source (the object from which the input is read) fails after the last transition that the header
+  -- declares. Then the reader may return `Device`, which is the error of a failed source. The contract allows this
+  -- error only if the first error of the input still depends on the bytes that may follow. It depends on them, because
+  -- the input has no error if no further line follows.
   pub end_failed :
       (rest : Option (List ℕ)) (failures : ℕ) → length es ≡ p.transitions → failures ≡ 1 → (old.over ≡ true → ⊥) →
       old.ahead ++ got ≡ [] → Refuses bounds (given ++ got) rest failures Device
   end_failed rest failures count failed goes_on none = grind (arith, transition_failed, goes_on, All-nil)
 
-  -- If the next line denotes a transition e between states of the system, then the reader has read one more transition,
-  -- which is e.
+  -- Suppose that the next line denotes a transition e, and that the source and the target of e are states of the
+  -- system. Then the transitions that have been read are the transitions before this line and e.
   pub transition_good : (now : Cutting) (e : Transition) → (old.over ≡ true → ⊥) → CutsLine (old.ahead ++ got) now →
       TransitionLine now.line e.source e.label e.target → IsAmong p.states e →
       ReadSoFar bounds (given ++ got) now p (es ++ e ∷ [])
@@ -163,7 +165,7 @@ module _ {bounds : Bounds} {given : List ℕ} {old : Cutting} {p : Promise} {es 
     spelled = grind (arith, all_zipped_more, p.states, so_far.lines, now.line, so_far.spelled, cuts.short);
   }
 
-  -- If there is no memory for the next transition, the reader may return `Memory`.
+  -- If an allocation fails while the next transition is stored, then the reader may return `Memory`.
   pub transition_refused :
       (now : Cutting) (rest : Option (List ℕ)) (failures : ℕ) → failures ≡ 0 → (old.over ≡ true → ⊥) →
       (now.over ≡ true → IsAtEnd rest) → CutsLine (old.ahead ++ got) now →
@@ -173,9 +175,9 @@ module _ {bounds : Bounds} {given : List ℕ} {old : Cutting} {p : Promise} {es 
       p.states rest failures
       (HasCut-line given got before old so_far.cut goes_on now cuts) so_far.good sound end
 
-  -- Assume that the source (what the input is read from) has not failed. In this case, each error that the reader
-  -- returns must be the first error of the whole input. This is required only if the contract of the source states
-  -- which bytes it contains.
+  -- Assume that the source (the object from which the input is read) has not failed. In this case, each error that the
+  -- reader returns must be the first error of the whole input. This is required only if the contract of the source
+  -- states which bytes it contains.
   module _ (found : ℕ) (rest : Option (List ℕ)) (failures : ℕ) (count : length es ≡ found) (sound : failures ≡ 0) where
     refused_behind : (fault : Fault) → IsTextFault fault →
         ((more : List ℕ) → rest ≡ Some more → (others : List (List ℕ)) × Lines (given ++ got ++ more) (before ++ others)
@@ -187,8 +189,8 @@ module _ {bounds : Bounds} {given : List ℕ} {old : Cutting} {p : Promise} {es 
         let (others, l, bad) = next more told in
         behind p.transitions p.states es others (grind arith) (rw count bad)))
 
-    -- If the input ends before the last transition that the header declares, then the reader may return `MissingEdges`
-    -- (transitions are missing).
+    -- Suppose that the input ends before the last transition that the header declares. Then the reader may return
+    -- `MissingEdges`, which says that transitions are missing.
     pub transition_missing :
         (now : Cutting) → found < p.transitions → (now.over ≡ true → IsAtEnd rest) → CutsEnd (old.ahead ++ got) now →
         Refuses bounds (given ++ got) rest failures (MissingEdges found)
@@ -197,7 +199,7 @@ module _ {bounds : Bounds} {given : List ℕ} {old : Cutting} {p : Promise} {es 
         let l = HasCut-end given got before old so_far.cut cuts.none in
         ([], rw (none_to_come rest more told (end cuts.over), append-nil, append-nil before) l, (promised, refl)))
 
-    -- If the next line is too long, the reader may return `LineTooLong` with the number of this line.
+    -- If the next line of the input is too long, then the reader may return `LineTooLong` with the number of this line.
     pub transition_too_long : found < p.transitions → (old.over ≡ true → ⊥) → BeginsTooLong (old.ahead ++ got) →
         Refuses bounds (given ++ got) rest failures (LineTooLong (found + 2))
     transition_too_long promised goes_on long =
@@ -213,7 +215,7 @@ module _ {bounds : Bounds} {given : List ℕ} {old : Cutting} {p : Promise} {es 
         let (line, others, l) = HasCut-more given got before old so_far.cut goes_on more some in
         (line ∷ others, l, inr (all, refl)))
 
-    -- If the next line has an error, the reader may return this error.
+    -- If the next line of the input has an error, then the reader may return this error.
     pub transition_faulty : (now : Cutting) (fault : Fault) → found < p.transitions → (old.over ≡ true → ⊥) →
         (now.over ≡ true → IsAtEnd rest) →
         CutsLine (old.ahead ++ got) now → EdgeFault p.states (found + 2) now.line fault → IsTextFault fault →
@@ -229,8 +231,8 @@ module _ {bounds : Bounds} {given : List ℕ} {old : Cutting} {p : Promise} {es 
 pub goes_on : {over : Bool} → over ≡ false → over ≡ true → ⊥
 goes_on open_at over = cc
 
--- If transitions have been read from the bytes `before`, and one more transition is then read from the bytes `line`,
--- then all these transitions have been read from the bytes `before` followed by the bytes `line`.
+-- Suppose that transitions have been read from the bytes `before`, and that one more transition has then been read from
+-- the bytes `line`. Then all these transitions have been read from the bytes `before` followed by the bytes `line`.
 pub HeldSoFar-push :
     (H : List (List ℕ)) (p : Promise) (old at now : Cutting) (held_at held : Held) (before line : List ℕ) →
     ((bounds : Bounds) (given : List ℕ) → ReadSoFar bounds given old p [] →

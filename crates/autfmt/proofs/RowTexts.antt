@@ -22,8 +22,8 @@ abbrev pub text_to : Grouped → Words → List Triple → List ℕ
 text_to g words order = header_of g.first (length g.places) g.states ++ written_lines words.entries.items order
 
 -- `RowsWait g words old new waiting s` holds if the header and the lines of all transitions with a source less than s
--- have been produced. A prefix of these bytes was written to the sink (what the output is written to), and the other
--- bytes are in the buffer.
+-- have been produced. A prefix of these bytes was written to the sink (the object to which the output is written), and
+-- the other bytes are in the buffer.
 pub record RowsWait (g : Grouped) (words : Words) (old new : Option (List ℕ)) (waiting : List ℕ) (s : ℕ) : Type 0 where
   pub order : List Triple
   pub ordered : AreOrdered words.ranks.items g.places s order
@@ -41,8 +41,9 @@ module _ {g : Grouped} {words : Words} (lts : IsLts g) (are : AreWords g.labels 
       same up in
       (system_from g.first g.states (texts words.entries.items) order, written, cc)
 
-  -- If writing to the sink (what the output is written to) fails, then a prefix of the output was written. If the
-  -- writing of the last row (the outgoing transitions of the last state) succeeds, then the whole output was written.
+  -- Suppose that the header and the rows of the first states have been produced, and that writing the buffer to the
+  -- sink (the object to which the output is written) fails. A row has the outgoing transitions of one state. Then the
+  -- bytes that were written to the sink are a prefix of the whole output.
   pub rows_begun : {old mid : Option (List ℕ)} {waiting : List ℕ} {s : ℕ} (new : Option (List ℕ)) →
       RowsWait g words old mid waiting s → AppendsPrefix mid new waiting → GainsPrefix (system_of g) old new
   rows_begun {old} {s = s} new rows put =
@@ -54,14 +55,16 @@ module _ {g : Grouped} {words : Words} (lts : IsLts g) (are : AreWords g.labels 
       cc (lines-append words.entries.items rows.order rest, append_assoc head (lines rows.order) (lines rest)) in
       (front, back, subst (Text (system_of g)) whole (text_from_order (rows.order ++ rest) same up), begun)
 
+  -- If the rows of all states have been produced and the buffer has been written to the sink (the object to which the
+  -- output is written), then the whole output has been written.
   pub rows_put : {old mid : Option (List ℕ)} {waiting : List ℕ} {s : ℕ} (new : Option (List ℕ)) →
       before s g.places ≡ length g.places → RowsWait g words old mid waiting s → Appends mid new waiting →
       GainsText (system_of g) old new
   rows_put new all rows put = search (rules, text_from_order, all_ordered, everything_put, rows.progress)
 
-  -- A row has the outgoing transitions of one state. If the lines of the row of the state s are appended to the buffer,
-  -- then the sink (what the output is written to) and the buffer together contain the lines of all rows up to and
-  -- including this row.
+  -- A row has the outgoing transitions of one state. Suppose that the header and the rows of all states less than s
+  -- have been produced, and that the lines of the row of the state s are then appended to the buffer. Then the header
+  -- and the rows of all states less than s + 1 have been produced.
   pub next_row : {old mid new : Option (List ℕ)} {waiting later : List ℕ} {s : ℕ} (row : List (ℕ × ℕ))
       → RowsWait g words old mid waiting s → IsSortedRow words.ranks.items (row_of s g.places) row
       → Progress mid new later (waiting ++ written_lines words.entries.items (map (from_source s) row))
@@ -78,7 +81,8 @@ module _ {g : Grouped} {words : Words} (lts : IsLts g) (are : AreWords g.labels 
             (goes_on (waits_too (lines added) rows.progress) put);
       }
 
--- Before the first row (the outgoing transitions of the first state), the buffer contains only the header.
+-- If only the header has been appended to the buffer, then the header and the rows of all states less than 0 have been
+-- produced (`RowsWait`). A row has the outgoing transitions of one state.
 pub no_row : {g : Grouped} {words : Words} {header : List ℕ} (w : Option (List ℕ)) → before 0 g.places ≡ 0 →
     header ≡ header_of g.first (length g.places) g.states → RowsWait g words w w header 0
 no_row {g} {words} {header} w first is = search rules

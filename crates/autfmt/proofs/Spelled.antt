@@ -35,8 +35,8 @@ target_put from t start n to bytes rest old new twelve long size room is end put
     let first = begins_with from (12 - start) run old new room (omega (arith, twelve, long)) (rw end at put) in
     grind (arith, take-take, target_of_line, append_assoc)
 
--- If the list `spellings` has the written forms of the first i labels, and the written form of the next label is
--- appended, then the list has the written forms of the first i + 1 labels.
+-- Suppose that the list `spellings` has the written forms of the first i labels. If the written form of the next label
+-- is appended to the list, then the list has the written forms of the first i + 1 labels.
 pub one_spelled_more : (entries : List Entry) (spellings grown : List Spelled) (x : Spelled) (i : ℕ) (d : Entry)
     → i < length entries → length spellings ≡ i → AreSpelled (texts entries) spellings
     → IsSpelled (get_or entries i d).0.now x → grown ≡ spellings ++ x ∷ [] → AreSpelled (texts entries) grown

@@ -1,5 +1,6 @@
--- Suppose that bytes are read from a source (what an input is read from) in two calls. If a result is correct for all
--- bytes that both calls together have read, then both calls together satisfy the contract `Takes` with this result.
+-- Suppose that two calls read bytes from a source (an object from which an input is read), one call after the other.
+-- Suppose also that a result is correct for the bytes of the first call, followed by the bytes of the second call. Then
+-- this result satisfies the contract `Takes` for both calls together.
 use Rattle.std.proofs.Common.{ℕ, List, ◌++◌, Option, Result, MatchResult, arith}
 use Rattle.std.specs.Io.KnownBytes.{Consumes}
 use Rattle.std.proofs.KnownBytes.{Consumes-trans}

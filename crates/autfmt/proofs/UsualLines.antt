@@ -1,5 +1,5 @@
--- If the fast path (`usual`) reads a transition at the beginning of some bytes, then the first line of these bytes
--- denotes this transition.
+-- The module `usual` is a fast path that reads transitions in their most common written forms. If it reads a transition
+-- at the beginning of some bytes, then the first line of these bytes denotes this transition.
 use Rattle.std.proofs.Common.{◌≡◌, ◌≢◌, ℕ, ◌+◌, ◌^◌, ◌<◌, ◌≤◌, true, false, not, eqb, List, [], ◌∷◌, ◌++◌, length}
 use Rattle.std.proofs.Common.{get_or, take, drop, map, codes, decimal, Some, refl, sym, ap, ◌∙◌, inl, inr, append_assoc}
 use Rattle.std.proofs.Common.{length-append, Bool, arith, rules}
@@ -43,8 +43,8 @@ digits_in_front : (n : ℕ) (bytes : List ℕ) → n ≤ length bytes → n ≤ 
     AreDigits (take n bytes)
 digits_in_front n bytes within digits i h = grind (arith, length-take-le, get_or-take, digit-range, prefix_len_passes)
 
--- If the first eight bytes begin with digits and there is no leading zero, then the bytes begin with the decimal digits
--- of a number.
+-- Suppose that the first eight bytes of a list begin with digits, and that there is no leading zero. Then the list
+-- begins with the decimal digits of a number.
 pub number_in_front : (bytes : List ℕ) (n v : ℕ) → AreDigitsInFront bytes n v → (1 < n → get_or bytes 0 0 ≢ 48) →
     BeginsWithNumber bytes v (drop n bytes)
 number_in_front bytes n v found leads =
@@ -61,15 +61,14 @@ number_in_front bytes n v found leads =
 
 -- ---- Labels
 
--- Suppose that a bit mask has one bit for each byte of a list, and that this bit is set if and only if a test returns
--- true for the byte. If the mask is not zero, then the test returns true for some byte.
+-- Suppose that a bit mask has one bit for each byte of a list, and that a bit is set if and only if a test returns true
+-- for its byte. If the mask is not zero, then the test returns true for some byte of the list.
 lane_passes : (p : ℕ → Bool) (xs : List ℕ) → 0 < mask_l (map p xs) → prefix_len (λ x. not (p x)) xs < length xs
 lane_passes p [] some = absurd (omega arith)
 lane_passes p (x ∷ xs) some = let h = lane_passes p xs in grind (arith, h)
 
--- Suppose that a bit mask has one bit for each of sixteen bytes, and that this bit is set if and only if the byte
--- equals `byte`. If the mask is not zero, then the index of its lowest set bit is the index of a byte that equals
--- `byte`.
+-- Suppose that a bit mask has one bit for each of sixteen bytes, and that a bit is set if and only if its byte equals
+-- `byte`. If the mask is not zero, then its lowest set bit belongs to a byte that equals `byte`.
 pub byte_in_lanes : (bytes : List ℕ) (i byte mask : ℕ) → i + 16 ≤ length bytes
     → mask ≡ mask_l (map (λ x. eqb x byte) (chunk i 16 bytes)) → 0 < mask
     → (i + count_trailing_zeros 64 mask < length bytes) × (get_or bytes (i + count_trailing_zeros 64 mask) 0 ≡ byte)
@@ -82,7 +81,8 @@ byte_in_lanes bytes i byte mask room is some =
     let short : count_trailing_zeros 64 mask < 16 = omega (arith, first, lane_passes passes v some_lane) in
     (omega arith, eqb-true _ _ (run_in_chunk_stops passes bytes i 16 _ 0 room first short))
 
--- If the byte `byte` is at the index i, then the bytes from this index on are `byte` and the bytes after the index.
+-- If the byte at the index i of a list is `byte`, then the elements of the list from this index on are `byte` and the
+-- elements after the index i.
 pub byte_at : (bytes : List ℕ) (i byte : ℕ) (rest : List ℕ) → i < length bytes → get_or bytes i 0 ≡ byte →
     drop (i + 1) bytes ≡ rest → drop i bytes ≡ byte ∷ rest
 byte_at bytes i byte rest room is behind = rw (drop_more bytes i 0 room, is, behind) refl
@@ -138,7 +138,8 @@ is_end bytes rest (inr e) = record {
   parts = e;
 }
 
--- If the tokens of a transition are read one after the other, then the bytes begin with the line of this transition.
+-- Suppose that the tokens of a transition are read from the beginning of a list of bytes, one after the other. Then the
+-- list begins with the line of this transition.
 pub transition_in_front : (bytes r0 r1 r2 r3 r4 r5 r6 : List ℕ) (s : ℕ) (a : List ℕ) (t : ℕ) → past 40 bytes ≡ Some r0
     → BeginsWithNumber r0 s r1 → FollowsComma r1 r2 → BeginsWithLabel r2 a r3
     → FollowsComma r3 r4 → BeginsWithNumber r4 t r5 → FollowsEnd r5 r6 → BeginsWithTransition bytes s a t r6
@@ -166,13 +167,13 @@ abbrev pub behind : {bytes : List ℕ} {s : ℕ} {a : List ℕ} {t : ℕ} {rest 
 behind {rest = rest} front = record { line = front.line; ahead = rest; over = false }
 
 -- If the bytes begin with the line of a transition, the line splitter can split off this line without reading further
--- bytes from the source (what the input is read from).
+-- bytes from the source (the object from which the input is read).
 pub cuts_in_front : (bytes : List ℕ) (s : ℕ) (a : List ℕ) (t : ℕ) (rest : List ℕ) →
     (front : BeginsWithTransition bytes s a t rest) → CutsLine (bytes ++ []) (behind front)
 cuts_in_front bytes s a t rest front = search rules
 
--- If the bytes that are not yet divided into lines begin with the line of a transition, then the source (what the input
--- is read from) has not ended.
+-- Suppose that the bytes that are not yet divided into lines begin with the line of a transition. Then the line
+-- splitter has not recorded that the source (the object from which the input is read) has ended.
 pub goes_on_in_front : (bytes : List ℕ) (s : ℕ) (a : List ℕ) (t : ℕ) (rest : List ℕ) (over : Bool) →
     BeginsWithTransition bytes s a t rest → (over ≡ true → bytes ≡ []) → over ≡ true → ⊥
 goes_on_in_front bytes s a t rest over front ended e =

@@ -1,6 +1,7 @@
 //! An example of a program that calls the libraries. The program reads a system from standard input. It writes the size
-//! of this system, the size of the smallest equivalent system, and the block of each state after each round of
-//! refinement. It also writes whether the system is equivalent to a system that describes a buffer for one element.
+//! of this system, the size of the smallest equivalent system, and the blocks of states before the first round of
+//! refinement and after each round that splits a block. It also writes whether the system is equivalent to a system
+//! that describes a buffer for one element.
 #![tactic(auto)]
 
 ghost use Rattle.std.specs.Prelude.{◌≡◌, ◌↔◌, ◌≤◌, IsTrue, IfOk};
@@ -95,8 +96,8 @@ fn rounds_of(alloc: Global, system: &Lts<Counter>) -> Result<Vec<Partition>, Mem
     Ok(rounds)
 }
 
-/// Reads a system from the source (what an input is read from), and computes the results about this system. Returns the
-/// errors of `read`, and the error `Memory` if an allocation fails.
+/// Reads a system from the source (the object from which the input is read), and computes the results about this
+/// system. Returns the errors of `read`, and the error `Memory` if an allocation fails.
 fn examine_text<R: Source>(alloc: Global, source: &mut R) -> Result<Findings, Fault>
     requires { R.failures source.old ≡ 0 }
 {

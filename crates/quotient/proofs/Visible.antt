@@ -1,5 +1,5 @@
--- If a system has no internal transitions, strong and branching bisimilarity relate the same states, and refinement
--- takes the same number of rounds for both.
+-- If a system has no internal transitions, then strong and branching bisimilarity relate the same states of this
+-- system, and refinement takes the same number of rounds for both relations.
 use Rattle.std.proofs.Common.{rules, ◌≡◌, ◌∙◌, ◌⊎◌, ℕ, ◌*◌, ◌≤◌, List, [], ◌∷◌, length, Contains, refl, sym, subst}
 use Rattle.std.proofs.Common.{inl, inr}
 use Rattle.std.proofs.lemmas.List.{get_or_default}
@@ -36,9 +36,9 @@ module _ (A : System) (none : (s t : ℕ) → ¬ Internal A s t) where
   bisimilar Branching Strong s t h = (h.0, branching_is_strong A A (Pairs h.0) none none h.1, h.2)
   bisimilar Branching Branching s t h = h
 
--- Suppose that refinement computes signatures for the relation `by`. Suppose also that `by` is the relation `rel`, or
--- that the system has no internal label. Then the resulting blocks are the classes for `rel`, and the number of rounds
--- is the number of rounds for `rel`.
+-- Suppose that refinement computes the signatures of states for the relation `by`. Suppose also that `by` is the
+-- relation `rel`, or that the system has no internal label. Then the last blocks of refinement are the classes of
+-- states that are bisimilar for `rel`, and refinement for `rel` takes the same number of rounds.
 module _ {l : Grouped} {by rel : Relation} {labels : List (List ℕ)}
     (numbered : (l : Grouped) (s : ℕ) (a : List ℕ) (t : ℕ) → IsLts l → Step (system_of l) s a t →
     (k : ℕ) × IsLabelId l.labels k a) (lts : IsLts l) (read : labels ≡ l.labels)

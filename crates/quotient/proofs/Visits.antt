@@ -7,15 +7,16 @@ use Rattle.lts.specs.Meter.{Counts, IsFresh, Costs, on_ok}
 use Rattle.lts.specs.Lts.{Grouped, system_of}
 use Rattle.quotient.specs.Visits.{StaysWithin, quotient_passes, union_passes}
 
--- Suppose that P and Q each hold for the result if the call succeeds. Then both P and Q hold for the result if the call
--- succeeds.
+-- Suppose that the result of a call has the property P if the call succeeds, and that it has the property Q if the call
+-- succeeds. Then the result has both properties if the call succeeds.
 pub IfOk-both : {T E : Type 0} (result : Result T E) (P Q : T → Type 0) → IfOk result P → IfOk result Q →
     IfOk result (λ x. P x × Q x)
 IfOk-both (Ok x) P Q p q = (p, q)
 IfOk-both (Err e) P Q p q = tt
 
--- A visit is a counted read of a transition. Suppose that minimisation makes the rounds of one refinement, and then two
--- passes over all transitions. Then its rounds and visits stay within the bounds for minimisation (`StaysWithin`).
+-- A visit is a counted read of a transition. Suppose that a minimisation makes the rounds of one refinement, and then
+-- two passes over all transitions. Then the numbers of rounds and visits are within the bounds for a minimisation
+-- (`StaysWithin`).
 pub minimised_keeps : {T E : Type 0} (states k r : ℕ) (old one two at : Counts) (result : Result T E) → IsFresh old →
     r ≤ states → Costs old one r (r * k) (r * k) → Costs one two 0 0 k → Costs two at 0 0 k →
     StaysWithin states k quotient_passes at (on_ok result (at.rounds * k))
@@ -38,8 +39,8 @@ module _ (a b u : Grouped) (same : system_of u ≡ union_of (system_of a) (syste
       places : length u.places ≡ length a.places + length b.places
       places = let e = ap (λ s. length s.transitions) same in search (rules, e, length-map, length-append)
 
-  -- The number of rounds and the number of visits (counted reads of transitions) of a comparison are at most the upper
-  -- bounds for a comparison. This holds even if the refinement fails.
+  -- The numbers of rounds and visits (counted reads of transitions) of a comparison are at most the upper bounds for a
+  -- comparison. This is true even if the refinement fails.
   pub compared_keeps : (visits least : ℕ) → Costs mid at r visits (r * length u.places) → least ≤ both + visits →
       StaysWithin (a.states + b.states) both union_passes at least
   compared_keeps visits least turns more =

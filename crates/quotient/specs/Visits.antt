@@ -14,9 +14,9 @@ quotient_passes = 2
 abbrev pub union_passes : ℕ
 union_passes = 1
 
--- `StaysWithin` holds if the meter has counted at most `states` rounds, and at least `least` visits (counted reads of
--- transitions). The number of visits must be at most (r + `passes`) * m, where r is the number of rounds and m is the
--- number of transitions.
+-- `StaysWithin` holds for the numbers of rounds and visits (counted reads of transitions) on a meter under three
+-- conditions. Let r be the number of rounds, and let m be the number of transitions. First, r is at most `states`.
+-- Second, the number of visits is at least `least`. Third, the number of visits is at most (r + `passes`) * m.
 pub record StaysWithin (states transitions passes : ℕ) (at : Counts) (least : ℕ) : Type 0 where
   pub few_rounds : at.rounds ≤ states
   pub at_least : least ≤ at.visits

@@ -20,8 +20,7 @@ use std::alloc::Global;
 /// most the number of states of both systems. All transitions of both systems are visited once to build the union, and
 /// once in each round.
 ///
-/// If `equivalent` fails, the numbers of rounds and visits that the meter has counted are still within these upper
-/// bounds.
+/// If `equivalent` fails, the meter has counted at most these numbers of rounds and visits.
 pub fn equivalent<M: Meter>(
     alloc: Global,
     a: &Lts<M>,

@@ -22,7 +22,7 @@ use std::alloc::Global;
 /// The meter counts rounds of refinement and visits (reads of transitions), and must not have counted anything before.
 /// On success, the number of rounds is the number of rounds that the refinement of the system takes. If there are `r`
 /// rounds and `m` transitions, the number of visits is at least `r * m` and at most `(r + 2) * m`. If `minimise` fails,
-/// the counts of the meter are within the same upper bounds.
+/// the number of visits is still at most `(r + 2) * m`.
 pub fn minimise<M: Meter>(
     alloc: Global,
     l: &Lts<M>,

@@ -1,5 +1,5 @@
-//! Computes the blocks of bisimilar states by partition refinement. The relation, strong or branching bisimilarity, is
-//! known only at run time.
+//! Computes the blocks of bisimilar states by partition refinement. The caller passes the relation (strong or branching
+//! bisimilarity) as an argument.
 ghost use Rattle.std.specs.Prelude.{◌≡◌, ◌⊎◌, ℕ, ◌*◌, ◌≤◌, length, IfOk, OnOk, OnErr};
 ghost use Rattle.std.specs.List.{Contains};
 ghost use Rattle.theory.specs.System.{internal};
@@ -14,7 +14,8 @@ use refine_core::{Branching, Strong, refine_blocks};
 use std::alloc::Global;
 use theory::Relation;
 
-/// Returns blocks such that two states share a block if and only if they are bisimilar modulo the relation `r`.
+/// Returns the blocks of bisimilar states: two states share a block if and only if they are bisimilar for the relation
+/// `r`.
 pub(crate) fn blocks<M: Meter>(
     alloc: Global,
     l: &Lts<M>,

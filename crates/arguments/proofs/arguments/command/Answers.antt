@@ -22,9 +22,9 @@ simple = refl
 free : is_simple_and_free program_app ≡ true
 free = refl
 
--- Suppose that `clap` accepts the arguments, and that f is a reason why the values that it finds do not lead to a job
--- (a subcommand with its options). If `clap` has found all values that the subcommand needs, f must be an unknown
--- relation or a failed allocation. Then the contract of `command` allows the error f.
+-- Suppose that `clap` accepts the arguments, and that f is an error in making a job (a subcommand with its options)
+-- from the values that `clap` finds. Suppose also that f is an unknown relation or a failed allocation whenever `clap`
+-- has found all mandatory arguments. Then the contract of `command` allows the error f.
 taken_fault : (words : List Text) (f : WordFault) → AreTaken words → IsFaultIn (subcommand_of program_app words) f →
     (IsWholeIn (subcommand_of program_app words) → IsFaultOfAJob f) → IsFaultOf words f
 taken_fault words (fault.Relation named) taken is asked = (taken, is)
@@ -38,7 +38,9 @@ taken_error : (words : List Text) (r : Result Job WordFault) → AreTaken words 
 taken_error words (Ok job) taken is asked = tt
 taken_error words (Err f) taken is asked = taken_fault words f taken is asked
 
--- If the error kind `kind` is in the list `kinds` and has the property P, then P holds for some element of `kinds`.
+-- The contract of `clap` says that an error kind is in a list (`IsAmong`). The contract of `command` says that some
+-- element of a list has a property (`Any`). The lemma connects both: if `kind` is in the list `kinds` and has the
+-- property P, then some element of `kinds` has the property P.
 some_kind : (P : ErrorKind → Type 0) (kind : ErrorKind) (kinds : List ErrorKind) →
     IsAmong kind kinds → P kind → Any P kinds
 some_kind P kind [] among holds = elim among [ ]
@@ -46,8 +48,8 @@ some_kind P kind (first ∷ rest) (inl is) holds = (0, first, omega arith, refl,
 some_kind P kind (first ∷ rest) (inr among) holds =
     let (k, other, below, at, does) = some_kind P kind rest among holds in (suc k, other, omega arith, at, does)
 
--- If `clap` reports an error for the arguments, and an error of this kind may be converted into f (`IsFaultOfKind`),
--- then the contract of `command` allows the error f.
+-- Suppose that `clap` reports an error for the arguments, and that an error of this kind may be converted into the
+-- error f (`IsFaultOfKind`). Then the contract of `command` allows the error f.
 found_fault : (words : List Text) (e : Error) (f : WordFault) → IsAmong (kind_of e) (fault_of program_app words) →
     IsFaultOfKind (kind_of e) f →
     IsFaultOf words f

@@ -50,17 +50,18 @@ module _ (g : Over) (c : After-equivalent g) where
   law : OrderLaws
   law = search rules
 
-  -- If a verdict (whether the two systems are equivalent) is correct for the systems in memory, it is also correct for
-  -- the systems that the inputs describe.
+  -- If a verdict (whether two systems are equivalent) is correct for the two systems in memory, then it is also correct
+  -- for the two systems that the inputs describe.
   verdict : (same : Bool) →
       (IsTrue same ↔ Equivalent c.args.rel (system_of c.in_ok-first.first) (system_of c.in_ok-second.second)) →
       IsVerdict asked both same
   verdict = verdict_of asked first second c.in_ok-first.first c.in_ok-second.second
       c.in_ok-first.ensures.outcome.outcome.read c.in_ok-second.ensures.outcome.outcome.read law
 
-  -- The meter counts rounds and visits (reads of transitions). Suppose that the number of rounds is the number of
-  -- rounds in the refinement of the union of the systems in memory, and that the number of visits is within the bounds
-  -- for this union (`StaysWithin`). Then both facts also hold for the union of the systems that the inputs describe.
+  -- A meter counts rounds and visits (reads of transitions). Suppose that the refinement of the union of the two
+  -- systems in memory takes as many rounds as the meter has counted. Suppose also that the counted visits are within
+  -- the bounds for this union (`StaysWithin`). Then both facts also hold for the union of the two systems that the
+  -- inputs describe.
   counted : (let at = g.M.Meter.counted c.equivalent.new.m in
       let k = length c.in_ok-first.first.places + length c.in_ok-second.second.places in
       Turns c.args.rel (union_of (system_of c.in_ok-first.first) (system_of c.in_ok-second.second)) at.rounds →
@@ -72,8 +73,8 @@ module _ (g : Over) (c : After-equivalent g) where
       (g.M.Meter.counted c.equivalent.new.m)
       c.in_ok-first.ensures.outcome.outcome.as_many c.in_ok-second.ensures.outcome.outcome.as_many law
 
-  -- The proof that both inputs have been read to their ends, and that the numbers of rounds and visits (reads of
-  -- transitions) on the meter are within the bounds for a whole comparison.
+  -- `got` proves that both inputs have been read to their ends, and that the numbers of rounds and visits (reads of
+  -- transitions) on the meter are within the bounds for a comparison of the two systems.
   abbrev got : HasReadBoth c.args.lim.now first (
     used g.R1.Source.rest g.R1.Source.failures c.args.a.now c.read_side.new.r,
     used g.R2.Source.rest g.R2.Source.failures c.args.b.now c.read_side-2.new.r,

@@ -25,8 +25,8 @@ returns-in-Two-clause-ends g c =
     ))
     c.cmp_program.ensures.ends)
 
--- Suppose that `Silent` (nothing is reported) holds if `flag` is false. Suppose also that `Shown` (the line of
--- `--stats` is written) holds if `flag` is true. Then `Silent` holds, or `flag` is true and `Shown` holds.
+-- Suppose that the proposition `Silent` holds if `flag` is false, and that the proposition `Shown` holds if `flag` is
+-- true. Then `Silent` holds, or `flag` is true and `Shown` holds.
 silent_or_shown : (flag : Bool) {Silent Shown : Type 0} → (flag ≡ false → Silent) → (IsTrue flag → Shown) →
     Silent ⊎ (IsTrue flag × Shown)
 silent_or_shown true silent shown = inr (refl, shown refl)

@@ -5,7 +5,8 @@ use Rattle.std.proofs.Math.Seq.{take-length}
 use Rattle.autbis.proofs.reports.say.Goals as goal
 
 -- Let `front` be the bytes that were written so far, and let `rest` be the bytes that are still to be written. If the
--- first n bytes of `rest` are written, they move to the end of `front`.
+-- first n bytes of `rest` are written next, they move from `rest` to the end of `front`, and the whole text stays the
+-- same.
 front_more : (front rest all : List ℕ) (n : ℕ) → all ≡ front ++ rest →
     all ≡ (front ++ take n rest) ++ take (length rest - n) (drop n rest)
 front_more front rest all n is =

@@ -105,7 +105,7 @@ module _ (g : Over) (c : After-write g) where
       order
 
 module _ (g : Over) (c : After-write g) where
-  -- The proof that the input was correct, and that `listing` is the minimised system for this input.
+  -- `to` proves that the input was correct, and that `listing` is the minimised system for this input.
   abbrev to : (listing : System) → IsInWrittenOrder (Q g c) listing →
       MinimisedText (asked g c) c.in_ok-system.ensures.outcome.given
   to listing order = record {
@@ -117,8 +117,8 @@ module _ (g : Over) (c : After-write g) where
     read_again = read_again g c listing order;
   }
 
-  -- If the text of the quotient has been written to the sink (what the output is written to), `run_min` satisfies its
-  -- contract for a success (`MinimisesTo`).
+  -- If the text of the quotient has been written to the sink (the object to which the output is written), then
+  -- `run_min` satisfies its contract for a success (`MinimisesTo`).
   done : {In Out : Type 0} (source : Used In) (sink : Used Out) → IsExhausted source →
       GainsText (Q g c) sink.before sink.after → sink.failures ≡ 0 →
       MinimisesTo (asked g c) c.in_ok-system.ensures.outcome.given source sink (g.M.Meter.counted c.minimise.new.m)
@@ -136,15 +136,15 @@ module _ (g : Over) (c : After-write g) where
         exhausted = exhausted;
       }
 
-  -- If a prefix of the text of the quotient has been written to the sink (what the output is written to), then these
-  -- bytes are a prefix of the text of the minimised system.
+  -- If a prefix of the text of the quotient has been written to the sink (the object to which the output is written),
+  -- then this prefix is also a prefix of the text of the minimised system.
   begun : (old new : Option (List ℕ)) → GainsPrefix (Q g c) old new →
       (written : MinimisedText (asked g c) c.in_ok-system.ensures.outcome.given)
       × AppendsPrefix old new (listed written.output)
   begun old new (front, later, (listing, order, is), gained) = (to listing order, (front, later, sym is, gained))
 
-  -- The proof that the input was read to its end, and that the numbers of rounds and visits (reads of transitions) on
-  -- the meter do not exceed the bounds for a whole run with this system.
+  -- `far` proves that the input was read to its end, and that the numbers of rounds and visits (reads of transitions)
+  -- on the meter are within the bounds for a minimisation of this system.
   far : {In : Type 0} (source : Used In) → IsExhausted source →
       HasReadInput c.args.lim.now c.in_ok-system.ensures.outcome.given source (g.M.Meter.counted c.minimise.new.m)
   far source exhausted =

@@ -5,7 +5,8 @@ use Rattle.autfmt.proofs.Hiding.{hidden_label-hidden, hidden_label-shown, contai
 use Rattle.autfmt.proofs.held.label_id.Goals as goal
 use Rattle.autfmt.proofs.held.label_id.Goals.{In-Some, In_default}
 
--- If the hide list (the labels to hide) contains the label, then hiding changes the label into the internal label.
+-- If the hide list (the list of the labels to hide) contains the label, then hiding changes the label into the internal
+-- label.
 hidden : (c : In-Some) → hidden_label c.args.h.now c.args.label.now ≡ internal
 hidden c = search (rules, hidden_label-hidden, contains_numbered, c.in-Some.hidden, c.in-Some.ensures.number)
 
@@ -19,7 +20,7 @@ returns-in-Some-clause-table c _ =
     subst (λ a. Interns c.args.labels.now a c.intern.new.self)
     (sym (hidden ((goal.at.returns-in-Some-clause-table c).In-Some))) c.in_ok-number.ensures.table
 
--- If the hide list (the labels to hide) does not contain the label, then hiding does not change the label.
+-- If the hide list (the list of the labels to hide) does not contain the label, then hiding does not change the label.
 shown : (c : In_default) → hidden_label c.args.h.now c.args.label.now ≡ c.args.label.now
 shown c = hidden_label-shown c.args.h.now c.args.label.now c.in_default.ensures.number
 

@@ -6,8 +6,8 @@ use Rattle.autfmt.specs.Faults.HeaderFault.{numbers}
 use Rattle.autfmt.proofs.judge.judge_header.Goals as goal
 use Rattle.autfmt.proofs.judge.judge_header.Goals.{In-Some}
 
--- If there is an error in the numbers that a header declares, and the line of the header is not too long, then line 1
--- has this error.
+-- Suppose that line 1 is not too long, and that `fault` is the error in the numbers that line 1 declares. Then `fault`
+-- is the error of line 1.
 wrong : (c : In-Some) (bounds : Bounds) (fault : Fault) →
     NumbersFault bounds c.in-Some.first c.in-Some.transitions c.in-Some.states fault →
     HeaderFault bounds c.args.line.now fault

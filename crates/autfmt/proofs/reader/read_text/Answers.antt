@@ -18,13 +18,13 @@ returns-in_err-held-clause-whole g c =
     rw (exit.1, exit.2)
     (takes_more _ _ _ _ _ _ first.given bytes first.took took (step c.args.lim.now first.given first.outcome))
 
--- The bytes that were read from the source (what the input is read from) before the reader tests whether the input has
--- ended.
+-- `front` has the bytes that were read from the source (the object from which the input is read) before the reader
+-- tests whether the input has ended.
 abbrev front : (g : Over) (c : After-is_at_end g) → List ℕ
 front g c = c.in_ok-promise.ensures.header.given ++ c.in_ok-held.ensures.transitions.0
 
--- The transitions that were read from the bytes `front`, which are all bytes that were read before the test for the end
--- of the input.
+-- `transitions` proves that a list of transitions has been read from the bytes `front`. These are all bytes that were
+-- read before the reader tests whether the input has ended.
 transitions : (g : Over) (c : After-is_at_end g) → (es : List Transition)
     × HeldSoFar c.args.lim.now c.args.h.now (front g c) c.in_ok-promise.promise
     (c.read_transitions.new.cutter, c.in_ok-held.held) es
@@ -38,8 +38,8 @@ count g c =
     let (es, so_far) = transitions g c in
     count_held c.args.h.now p.states c.in_ok-held.held es p.transitions so_far.1 (sym c.in_ok-held.ensures.len)
 
--- The bytes `front`, which were read before the test for the end of the input, and then the bytes that this test has
--- read, are all bytes that were read from the source (what the input is read from).
+-- The bytes that were read from the source (the object from which the input is read) are the bytes `front`, followed by
+-- the bytes that the test for the end of the input has read.
 took : (g : Over) (c : After-is_at_end g) (last : List ℕ) →
     Consumes (g.R.Source.rest c.read_transitions.new.r) (g.R.Source.rest c.is_at_end.new.r) last →
     Consumes (g.R.Source.rest c.args.r.now) (g.R.Source.rest c.is_at_end.new.r) (front g c ++ last)
