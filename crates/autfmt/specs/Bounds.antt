@@ -1,4 +1,5 @@
--- The limits on the numbers of states and transitions of an input, which a reader of `.aut` files enforces.
+-- This file defines the limits that a reader of `.aut` files enforces: how many states and how many transitions an
+-- input may have.
 use Rattle.std.specs.Prelude.{ℕ, ◌≤◌}
 use Rattle.autfmt.specs.declared.limits.TheConstants.{FILE_STATES, FILE_TRANSITIONS}
 

@@ -1,5 +1,5 @@
--- The model of the line splitter (`Cutter`), which takes chunks of bytes from a source (what an input is read from) and
--- divides them into lines.
+-- This file defines a model of the line splitter (`Cutter`). The line splitter takes chunks of bytes from a source (the
+-- object from which the input is read), and divides these bytes into lines.
 use Rattle.std.specs.Prelude.{◌≡◌, ◌⊎◌, ℕ, ◌<◌, ◌≤◌, Bool, true, false, IsTrue, List, [], ◌∷◌, ◌++◌, length, Option}
 use Rattle.std.specs.Prelude.{None, Some, IfSome}
 use Rattle.std.specs.List.{All, flat_map, slice_range}
@@ -9,38 +9,43 @@ use Rattle.autfmt.specs.declared.cutter.TheConstants.{CHUNK}
 use Rattle.autfmt.specs.declared.line.TheConstants.{LONGEST_LINE}
 
 -- The state of the line splitter. The field `line` is the line that was split off last. The field `ahead` has the bytes
--- that were read from the source (what the input is read from) but not yet divided into lines. The field `over` says
--- whether the source has ended.
+-- that were read from the source (the object from which the input is read) but not yet divided into lines. The field
+-- `over` is true if the line splitter has reached the end of the source.
 pub record Cutting : Type 0 where
   pub line : List ℕ
   pub ahead : List ℕ
   pub over : Bool
 
--- The line that the line splitter returned last. If the first argument is a range (`span`), the line is this range of
--- the chunk, which has the bytes that were last read from the input. If the first argument is `None`, the line is the
--- content of the buffer.
+-- `cut_line span chunk buffer` is the line that the line splitter has split off last. The list `chunk` begins with the
+-- bytes that were last read from the input. If `span` is a range (a start index and an end index), the line consists of
+-- the bytes of `chunk` in this range. If `span` is `None`, the line is the content of the buffer, which is the argument
+-- `buffer`.
 abbrev pub cut_line : Option (ℕ × ℕ) → List ℕ → List ℕ → List ℕ
 cut_line None chunk buffer = buffer
 cut_line (Some span) chunk buffer = slice_range chunk span.0 span.1
 
--- `IsCutter` is the invariant of the line splitter. It states that the indices `from` and `to` and the range `span` lie
--- within the chunk, which has the bytes that were last read from the input. It also states that the whole chunk has
--- been divided into lines once the source (what the input is read from) has ended (`over`).
+-- `IsCutter from to span over` is the invariant of the line splitter. The chunk is an array of `CHUNK` bytes, and its
+-- first `to` bytes are the bytes that were last read from the input. The next line begins at the index `from` of the
+-- chunk. The line that was split off last is the range `span` of the chunk, or is in a buffer if `span` is `None`. The
+-- invariant states three facts. First, `from` is at most `to`, and `to` is at most `CHUNK`. Second, if `span` is a
+-- range, this range lies within the chunk. Third, if the source (the object from which the input is read) has ended
+-- (`over`), then `from` equals `to`, so that all bytes of the chunk have been divided into lines.
 pub record IsCutter (from to : ℕ) (span : Option (ℕ × ℕ)) (over : Bool) : Type 0 where
   pub ordered : from ≤ to
   pub within : to ≤ CHUNK
   pub last : IfSome span (λ p. (p.0 ≤ p.1) × (p.1 ≤ CHUNK))
   pub used_up : IsTrue over → from ≡ to
 
--- `BeginsTooLong bytes` holds if the first line of the bytes is too long: the bytes begin with more than 8192 bytes
--- (`LONGEST_LINE`) that contain no line feed.
+-- `BeginsTooLong bytes` holds if the list `bytes` begins with more than 8192 bytes (`LONGEST_LINE`) that contain no
+-- line feed. In this case the first line of the list is too long.
 abbrev pub BeginsTooLong : List ℕ → Type 0
 BeginsTooLong bytes =
     (front : List ℕ) × (tail : List ℕ) × IsOneLine front × (LONGEST_LINE < length front) × (bytes ≡ front ++ tail)
 
--- `CutsLine bytes now` holds if the line splitter in the state `now` has split off the first line of the bytes
--- (`now.line`), and this line is not too long. There are two cases. Either a line feed follows the line, and
--- `now.ahead` are the bytes after this line feed. Or the input has ended, and the bytes consist of this line only.
+-- `CutsLine bytes now` holds if the line splitter has split off the first line of the list `bytes`, and `now` is its
+-- state after this. The line is `now.line`, and it must have at most 8192 bytes (`LONGEST_LINE`). There are two cases.
+-- In the first case, a line feed follows the line, and `now.ahead` has the bytes after this line feed. In the second
+-- case, the input has ended, and the list `bytes` is this line, which is not empty.
 pub record CutsLine (bytes : List ℕ) (now : Cutting) : Type 0 where
   pub one : IsOneLine now.line
   pub short : IsShort now.line
@@ -48,32 +53,38 @@ pub record CutsLine (bytes : List ℕ) (now : Cutting) : Type 0 where
       ((now.over ≡ false) × (bytes ≡ now.line ++ 10 ∷ now.ahead))
       ⊎ ((now.over ≡ true) × (now.ahead ≡ []) × (1 ≤ length now.line) × (bytes ≡ now.line))
 
--- `CutsEnd bytes now` holds if the list `bytes` is empty, the input has ended, and the line splitter in the state `now`
--- has divided all bytes into lines.
+-- `CutsEnd bytes now` holds under three conditions. First, the list `bytes` is empty. Second, the line splitter in the
+-- state `now` has divided all bytes that it has read into lines (`now.ahead` is empty). Third, it has reached the end
+-- of the input (`now.over`).
 pub record CutsEnd (bytes : List ℕ) (now : Cutting) : Type 0 where
   pub none : bytes ≡ []
   pub ahead : now.ahead ≡ []
   pub over : now.over ≡ true
 
--- `IsPart bytes` holds if the bytes can be a part of one line: they contain no line feed, and there are at most 8192 of
--- them (`LONGEST_LINE`).
+-- `IsPart bytes` holds if the list `bytes` contains no line feed and has at most 8192 bytes (`LONGEST_LINE`). Such
+-- bytes can be a part of one line.
 abbrev pub IsPart : List ℕ → Type 0
 IsPart bytes = IsOneLine bytes × IsShort bytes
 
--- `Feeds` holds if the line splitter in the state `at` can still use its source (what the input is read from). The
--- source must not have failed. If the line splitter has recorded that the source has ended (`over`), the source must
--- have no further bytes.
+-- `Feeds rest failures at` holds if the line splitter in the state `at` may still read from its source (the object from
+-- which the input is read). The argument `rest` has the bytes that the source will still return, or is `None` if these
+-- bytes are not known. The argument `failures` is the number of failures of the source. There are two conditions.
+-- First, the source has not failed. Second, if the line splitter has reached the end of the source (`at.over`), then
+-- `rest` contains no bytes.
 pub record Feeds (rest : Option (List ℕ)) (failures : ℕ) (at : Cutting) : Type 0 where
   pub sound : failures ≡ 0
   pub end : IsTrue at.over → IsAtEnd rest
 
--- `with_line_feeds lines` are the bytes of all these lines in their order, with a line feed after each line.
+-- `with_line_feeds lines` is the list of the bytes of all lines in `lines`, in their order, with a line feed after each
+-- line.
 abbrev pub with_line_feeds : List (List ℕ) → List ℕ
 with_line_feeds lines = flat_map (λ line. line ++ 10 ∷ []) lines
 
--- `HasCut given lines at` holds if the line splitter in the state `at` has divided the bytes `given` into these lines.
--- There are two cases. Either the input has not ended, and `given` consists of the lines, each followed by a line feed,
--- and of the bytes that are not yet divided (`at.ahead`). Or the input has ended, and `lines` are all lines of `given`.
+-- `HasCut given lines at` holds if the line splitter in the state `at` has divided the bytes `given` into the lines of
+-- the list `lines`. There are two cases. In the first case, the line splitter has not reached the end of the input
+-- (`at.over`). Then `given` consists of the lines, each followed by a line feed, and of the bytes that are not yet
+-- divided into lines (`at.ahead`). In the second case, the line splitter has reached the end of the input. Then `lines`
+-- are all lines of `given`.
 abbrev pub HasCut : List ℕ → List (List ℕ) → Cutting → Type 0
 HasCut given lines at =
     ((at.over ≡ false) × (given ≡ with_line_feeds lines ++ at.ahead) × All IsOneLine lines)

@@ -1,16 +1,17 @@
--- Bytes that the writer prepares once and copies into many lines. These are the first bytes of all lines with the same
--- source, and the written form of each short label (at most 28 bytes).
+-- The writer prepares some bytes once and copies them into many lines. This file defines two kinds of such bytes: the
+-- bytes before the label, which all lines of transitions with the same source share, and the written form of each short
+-- label (at most 28 bytes).
 use Rattle.std.specs.Prelude.{◌≡◌, ℕ, ◌<◌, ◌≤◌, List, [], ◌++◌, length, get_or, take, codes, decimal}
 use Rattle.autfmt.specs.declared.spelling.Spelled.{Spelled}
 use Rattle.autfmt.specs.Written.{written_label}
 
--- `written_front source` is the front of the line of a transition with this source: the bytes that come before the
--- label.
+-- `written_front source` is the front of the line of a transition with this source. The front has all bytes that come
+-- before the label.
 abbrev pub written_front : ℕ → List ℕ
 written_front source = codes "(" ++ decimal source ++ codes ", "
 
 -- `IsFront source len bytes` holds if the first `len` bytes of the array `bytes` are the front of a line (all bytes
--- before the label) for a transition with the source `source`.
+-- before the label) for a transition with the source `source`. The front has at most 13 bytes.
 pub record IsFront (source len : ℕ) (bytes : List ℕ) : Type 0 where
   pub short : len ≤ 13
   pub front : take len bytes ≡ written_front source
@@ -20,15 +21,17 @@ pub record IsFront (source len : ℕ) (bytes : List ℕ) : Type 0 where
 abbrev pub written_word : List ℕ → List ℕ
 written_word label = written_label label ++ codes ", "
 
--- `IsSpelled label s` holds if s has no bytes (`len` is 0), or if the first bytes of s are the written form of the
--- label with a comma and a space.
+-- `IsSpelled label s` holds if s is a correct record of the written form of the label. There are two cases. In the
+-- first case, s stores no bytes (`s.len` is 0). In the second case, the first `s.len` bytes of the array in s are the
+-- written form of the label, followed by a comma and a space.
 pub record IsSpelled (label : List ℕ) (s : Spelled) : Type 0 where
   pub room : length s.bytes ≡ 32
   pub short : s.len ≤ 32
   pub word : 0 < s.len → take s.len s.bytes ≡ written_word label
 
--- `AreSpelled labels spelled` holds if each item of the list `spelled` is correct for the label with the same index:
--- the item is empty or has the written form of this label.
+-- `AreSpelled labels spelled` holds if each item of the list `spelled` is correct for the label with the same index in
+-- the list `labels`. The item is correct if it stores no bytes, or if it stores the written form of this label,
+-- followed by a comma and a space.
 abbrev pub AreSpelled : List (List ℕ) → List Spelled → Type 0
 AreSpelled labels spelled =
     (k : ℕ) (d : Spelled) → k < length spelled → IsSpelled (get_or labels k []) (get_or spelled k d)

@@ -11,8 +11,8 @@ use Rattle.theory.specs.System.{IsLabel}
 abbrev pub Blanks : List ℕ → Type 0
 Blanks bs = All (λ b. (b ≡ 0x20) ⊎ (b ≡ 0x09) ⊎ (b ≡ 0x0D)) bs
 
--- `Spaced tokens line` holds if the line consists of these tokens in their order, with any number of blanks before,
--- between and after them.
+-- `Spaced tokens line` holds if the line consists of the tokens in the list `tokens`, in their order, with any number
+-- of blanks before, between and after these tokens.
 abbrev pub Spaced : List (List ℕ) → List ℕ → Type 0
 Spaced [] line = Blanks line
 Spaced (token ∷ tokens) line =
@@ -28,7 +28,7 @@ abbrev pub is_letter : ℕ → Bool
 is_letter b = is_ascii_alphabetic b || (b == 95)
 
 -- `is_plain a` is true if the label a may be written without quotation marks. This is the case if a consists of 1 to
--- 8000 letters and digits, and begins with a letter.
+-- 8000 letters and digits, and begins with a letter. The underscore counts as a letter (`is_letter`).
 abbrev pub is_plain : List ℕ → Bool
 is_plain [] = false
 is_plain (b ∷ bs) = is_letter b && list_all (λ c. is_letter c || is_ascii_digit c) bs && nat_le (length (b ∷ bs)) 8000
@@ -37,9 +37,9 @@ is_plain (b ∷ bs) = is_letter b && list_all (λ c. is_letter c || is_ascii_dig
 abbrev pub quoted : List ℕ → List ℕ
 quoted a = codes "\"" ++ a ++ codes "\""
 
--- `Label spelling a` holds if the bytes `spelling` are a written form of the label a. There are two written forms. The
--- first form is the label with a quotation mark before it and a quotation mark after it. The second form is the label
--- itself, which is allowed only if `is_plain` is true for the label.
+-- `Label spelling a` holds if the bytes `spelling` are a written form of the label a. A label has at most two written
+-- forms. The first form is the label with a quotation mark before it and a quotation mark after it. The second form is
+-- the label itself. This form is allowed only if `is_plain` is true for the label.
 abbrev pub Label : List ℕ → List ℕ → Type 0
 Label spelling a = (IsTrue (is_plain a) × (spelling ≡ a)) ⊎ (IsLabel a × (spelling ≡ quoted a))
 
@@ -57,6 +57,7 @@ TransitionLine line s a t =
     (source label target : List ℕ) × IsDecimal source s × Label label a × IsDecimal target t
     × Spaced (codes "(" ∷ source ∷ codes "," ∷ label ∷ codes "," ∷ target ∷ codes ")" ∷ []) line
 
--- `HideLine line a` holds if the line consists of a written form of the label a, with any number of blanks around it.
+-- `HideLine line a` holds if the line consists of a written form of the label a, with any number of blanks before it
+-- and after it.
 abbrev pub HideLine : List ℕ → List ℕ → Type 0
 HideLine line a = (label : List ℕ) × Label label a × Spaced (label ∷ []) line

@@ -1,5 +1,5 @@
--- The transitions that a reader stores while it reads (`Held`): a label table, and one triple of source, label ID and
--- target for each transition.
+-- This file is about the transitions that a reader stores while it reads an input (`Held`). The reader stores a label
+-- table, and for each transition a triple: the source, the ID of the label in this table, and the target.
 use Rattle.std.specs.Prelude.{◌≡◌, ◌⊎◌, ℕ, ◌<◌, ◌≤◌, List, [], ◌∷◌, ◌++◌, length, map, Contains}
 use Rattle.std.specs.List.{All}
 use Rattle.theory.specs.System.{Transition, hidden_label, hidden_transition}
@@ -8,9 +8,10 @@ use Rattle.lts.specs.Lts.{Triple, IsTriple, label_of, transition_of}
 use Rattle.autfmt.specs.declared.held.Held.{Held}
 use Rattle.autfmt.specs.declared.limits.TheConstants.{FILE_TRANSITIONS}
 
--- `AddsTriple old now s a t` holds if one triple was added, which has the source s, the ID of the label a and the
--- target t. The definition also requires that all labels in the table keep their IDs, and that no label other than a is
--- added to the table.
+-- `AddsTriple old now s a t` holds if `now` is the result of adding one triple to the stored transitions `old`. There
+-- are three conditions. First, the triple has the source s, the ID of the label a and the target t, and was appended to
+-- the triples of `old`. Second, each label in the label table of `old` has the same ID in the label table of `now`.
+-- Third, no label other than a was added to the label table.
 pub record AddsTriple (old now : Held) (s : ℕ) (a : List ℕ) (t : ℕ) : Type 0 where
   pub number : ℕ
   pub numbered : IsLabelId now.labels number a
@@ -18,20 +19,24 @@ pub record AddsTriple (old now : Held) (s : ℕ) (a : List ℕ) (t : ℕ) : Type
   pub known : (k : ℕ) → k < length now.labels → (k < length old.labels) ⊎ (k ≡ number)
   pub items : now.transitions ≡ old.transitions ++ (s, number, t) ∷ []
 
--- `CanAdd held promised` holds if one more transition can be added to the stored transitions. Three facts are required.
--- First, fewer transitions are stored than the header has promised. Second, the promised number is within the limit for
--- files. Third, the label table has no more labels than there are stored transitions.
+-- `CanAdd held promised` holds if one more transition can be added to the stored transitions `held`. The argument
+-- `promised` is the number of transitions that the header declares. There are three conditions. First, fewer than
+-- `promised` transitions are stored. Second, `promised` is within the limit for files. Third, the label table has no
+-- more labels than there are stored transitions.
 pub record CanAdd (held : Held) (promised : ℕ) : Type 0 where
   pub fewer : length held.transitions < promised
   pub file : promised ≤ FILE_TRANSITIONS
   pub few_labels : length held.labels ≤ length held.transitions
 
--- `AreShown H labels` holds if hiding the labels in the list H changes no label of the label table.
+-- `AreShown H labels` holds if no label in the label table `labels` is changed by hiding the labels in the list H.
+-- Hiding replaces each label in H by the internal label `i`.
 abbrev pub AreShown : List (List ℕ) → (labels : List (List ℕ)) → Type 0
 AreShown H labels = (k : ℕ) → k < length labels → hidden_label H (text_of labels k) ≡ text_of labels k
 
--- `Holds H n held es` holds if the stored triples denote the transitions es of a system with n states, with the labels
--- in H hidden. The definition also requires that the label table contains only labels of stored triples.
+-- `Holds H n held es` holds under three conditions. First, the triples stored in `held` denote the transitions in the
+-- list es, after the labels in the list H were hidden. Second, these triples are transitions of a system with n states.
+-- Third, the label table of `held` contains only labels of stored triples, and not more labels than there are stored
+-- triples.
 pub record Holds (H : List (List ℕ)) (n : ℕ) (held : Held) (es : List Transition) : Type 0 where
   pub hidden : map (transition_of held.labels) held.transitions ≡ map (hidden_transition H) es
   pub among : All (IsTriple (length held.labels) n) held.transitions

@@ -9,17 +9,17 @@ use Rattle.autfmt.specs.declared.line.TheConstants.{LONGEST_LINE}
 use Rattle.autfmt.specs.Grammar.{HideLine}
 use Rattle.autfmt.specs.Texts.{Lines, IsShort}
 
--- `Hides line a` holds if the line consists of the label a and is not too long.
+-- `Hides line a` holds if the line is a correct line of a hide list with the label a, and has at most 8192 bytes.
 abbrev pub Hides : List ℕ → List ℕ → Type 0
 Hides line a = IsShort line × HideLine line a
 
--- `HideReads text H` holds if the bytes `text` are a hide list (labels to hide, one on each line) with the labels H:
--- the k-th line has the k-th label.
+-- `HideReads text H` holds if the bytes `text` are a correct hide list, and H is the list of the labels on its lines,
+-- in the order of the lines. A hide list has the labels to hide, one on each line.
 abbrev pub HideReads : List ℕ → List (List ℕ) → Type 0
 HideReads text H = (lines : List (List ℕ)) × Lines text lines × (length lines ≤ MOST_LINES) × AllZip Hides lines H
 
--- `HideFault k line fault` holds if `fault` is the error of line k of a hide list (the labels to hide). The errors are
--- checked in the order of these equations.
+-- `HideFault k line fault` holds if `fault` is the error of line k of a hide list (the labels to hide). If several of
+-- the errors below are possible, `fault` is the first of them, in the order of the equations.
 abbrev pub HideFault : ℕ → List ℕ → Fault → Type 0
 HideFault k line TooManyHidden = MOST_LINES < k
 HideFault k line (LineTooLong j) = (j ≡ k) × (k ≤ MOST_LINES) × (LONGEST_LINE < length line)
@@ -27,7 +27,7 @@ HideFault k line (BadHide j) = (j ≡ k) × (k ≤ MOST_LINES) × IsShort line �
 HideFault k line _ = ⊥
 
 -- `FirstHideFault text fault` holds if `fault` is the first error of the hide list `text` (the labels to hide). This
--- means: `fault` is the error of a line, and every earlier line is a label.
+-- means that a line of the hide list has this error, and that every earlier line is a correct label.
 pub record FirstHideFault (text : List ℕ) (fault : Fault) : Type 0 where
   pub lines : List (List ℕ)
   pub line : List ℕ
@@ -38,8 +38,7 @@ pub record FirstHideFault (text : List ℕ) (fault : Fault) : Type 0 where
   pub few : length lines ≤ MOST_LINES
   pub faulty : HideFault (length lines + 1) line fault
 
--- `JudgedHideFault given fault` holds if the bytes that were read so far (`given`) determine the first error of the
--- hide list (the labels to hide). This means: for all bytes that may follow, the first error of the whole hide list is
--- `fault`.
+-- `JudgedHideFault given fault` holds if `fault` is the first error of every hide list (the labels to hide) that begins
+-- with the bytes `given`. Therefore a reader that has read only these bytes can already report the error.
 abbrev pub JudgedHideFault : List ℕ → Fault → Type 0
 JudgedHideFault given fault = (more : List ℕ) → FirstHideFault (given ++ more) fault

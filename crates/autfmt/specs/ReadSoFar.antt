@@ -1,4 +1,5 @@
--- These definitions state what the reader of a system has read and stored after a number of whole lines.
+-- These definitions relate the lines of an input that have been read so far to the transitions that the reader has
+-- stored.
 use Rattle.std.specs.Prelude.{ℕ, List, [], ◌∷◌, ◌++◌}
 use Rattle.std.specs.List.{AllZip}
 use Rattle.theory.specs.System.{Transition}
@@ -9,9 +10,9 @@ use Rattle.autfmt.specs.Texts.{GoodHeader, SpellsAmong, Reads}
 use Rattle.autfmt.specs.Cutter.{Cutting, HasCut}
 use Rattle.autfmt.specs.Held.{Holds}
 
--- `ReadSoFar bounds given at p es` holds if the lines that were read so far from the bytes `given` are a correct header
--- and one line for each transition in the list es. The variable p has the numbers that the header declares, and `at` is
--- the state of the line splitter (`Cutter`).
+-- `ReadSoFar bounds given at p es` holds under two conditions. First, the line splitter (`Cutter`) in the state `at`
+-- has divided the bytes `given` into lines. Second, these lines are a correct header within the limits `bounds`, and
+-- then one line for each transition in the list es. The record p has the numbers that the header declares.
 pub record ReadSoFar (bounds : Bounds) (given : List ℕ) (at : Cutting) (p : Promise) (es : List Transition) :
     Type 0 where
   pub header : List ℕ
@@ -24,21 +25,24 @@ pub record ReadSoFar (bounds : Bounds) (given : List ℕ) (at : Cutting) (p : Pr
 abbrev pub Place : Type 0
 Place = Cutting × Held
 
--- `HeldSoFar bounds H given p at es` holds if the transitions es have been read from the bytes `given`, and are stored
--- with the labels in H hidden.
+-- `HeldSoFar bounds H given p at es` holds if a reader in the state `at` has read a header and the transitions in the
+-- list es from the bytes `given`, and has stored these transitions. In the stored transitions, the labels in the list H
+-- are hidden. The record p has the numbers that the header declares.
 abbrev pub HeldSoFar : Bounds → List (List ℕ) → List ℕ → Promise → Place → List Transition → Type 0
 HeldSoFar bounds H given p at es = ReadSoFar bounds given at.0 p es × Holds H p.states at.1 es
 
--- `ReadsOneMore H p got old now` holds if the reader has read the next transition from the bytes `got` and has stored
--- this transition. The state of the reader was `old` before, and is `now` afterwards. The definition requires this for
--- every list of transitions that the reader may have read before.
+-- `ReadsOneMore H p got old now` states that a reader has read one more transition from the bytes `got` and has stored
+-- it. The arguments `old` and `now` are the states of the reader before and after. The definition is about every list
+-- of transitions that the reader may have stored in the state `old` (`HeldSoFar`). In the state `now`, the reader must
+-- have stored the same list and one transition after it.
 abbrev pub ReadsOneMore : List (List ℕ) → Promise → List ℕ → (old now : Place) → Type 0
 ReadsOneMore H p got old now =
     (bounds : Bounds) (given : List ℕ) (es : List Transition) → HeldSoFar bounds H given p old es →
     (e : Transition) × HeldSoFar bounds H (given ++ got) p now (es ++ e ∷ [])
 
--- `HoldsText bounds H text p held` holds if the input `text` denotes a system, and the transitions of this system are
--- stored with the labels in H hidden.
+-- `HoldsText bounds H text p held` holds if the input `text` denotes a system within the limits `bounds`, and `held`
+-- has the transitions of this system. In `held`, the labels in the list H are hidden. The record p has the numbers that
+-- the header of the input declares.
 abbrev pub HoldsText : Bounds → List (List ℕ) → List ℕ → Promise → Held → Type 0
 HoldsText bounds H text p held =
     (es : List Transition) × Reads bounds text (record { first = p.first; states = p.states; transitions = es })

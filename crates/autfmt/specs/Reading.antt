@@ -1,18 +1,20 @@
--- Functions that read the tokens of a line from left to right. Each function returns a token and the bytes after it.
+-- This file defines functions that read the tokens of a line from left to right. A function that reads one token
+-- returns this token and the bytes after it.
 use Rattle.std.specs.Prelude.{◌≡◌, ℕ, ◌+◌, ◌-◌, ◌*◌, ◌^◌, Bool, ◌&&◌, ◌||◌, ◌==◌, nat_lt, nat_le, List, [], ◌∷◌, length}
 use Rattle.std.specs.Prelude.{take, drop, Option, Some, None, if◌then◌else◌}
 use Rattle.std.specs.Char.{is_ascii_digit}
 use Rattle.std.specs.List.{list_all, prefix_len}
 use Rattle.autfmt.specs.Grammar.{is_letter}
 
--- Applies the function f to the value of the option on the left. If this option has no value, the result is None.
+-- `x >>= f` applies the function f to the value of the option x. If x is `None`, the result is `None`.
 infixl 10 ◌>>=◌
 abbrev pub ◌>>=◌ : {A B : Type 0} → Option A → (A → Option B) → Option B
 (Some x) >>= f = f x
 None >>= f = None
 
--- `IsSeenAs view result read` holds if the result of a Rust function, converted by `view`, equals the result `read` of
--- the corresponding function in this file.
+-- `IsSeenAs view result read` relates the result of a Rust function to the result `read` of the corresponding function
+-- in this file. It holds if `read` is the result of the Rust function (`result`) after its value was converted by
+-- `view`.
 abbrev pub IsSeenAs : {X Y : Type 0} → (X → Y) → Option X → Option Y → Type 0
 IsSeenAs view (Some x) read = read ≡ Some (view x)
 IsSeenAs view None read = read ≡ None
@@ -21,50 +23,55 @@ IsSeenAs view None read = read ≡ None
 abbrev pub is_blank : ℕ → Bool
 is_blank b = (b == 0x20) || (b == 0x09) || (b == 0x0D)
 
--- `after_blanks bytes` are the bytes without their leading blanks.
+-- `after_blanks bytes` is the list `bytes` without its leading blanks.
 unfoldable pub after_blanks : List ℕ → List ℕ
 after_blanks [] = []
 after_blanks (b ∷ bs) = if is_blank b then after_blanks bs else b ∷ bs
 
--- `past c bytes` are the bytes after the first byte, if the first byte is c. Otherwise, the result is None.
+-- If the first byte of the list `bytes` is c, `past c bytes` are the bytes after this first byte. Otherwise, the result
+-- is `None`.
 unfoldable pub past : ℕ → List ℕ → Option (List ℕ)
 past c [] = None
 past c (b ∷ bs) = if b == c then Some bs else None
 
--- `grows v` is true if a further digit may follow the digits of the number v. This is the case if v is not zero and has
--- fewer than ten digits.
+-- `grows v` is true if a further digit may follow the digits of the number v, because v is not zero and has fewer than
+-- ten digits.
 abbrev pub grows : ℕ → Bool
 grows v = nat_lt 0 v && nat_lt v (10 ^ 9)
 
--- Reads the leading digits of the bytes as further digits of the number v. Returns the whole number and the bytes after
--- its last digit.
+-- `more_digits v bytes` reads the digits with which the list `bytes` begins as further digits of the number v. The
+-- result is the whole number and the bytes after its last digit. The result is `None` if a digit follows a leading
+-- zero, or if the number has more than ten digits.
 unfoldable pub more_digits : ℕ → List ℕ → Option (ℕ × List ℕ)
 more_digits v [] = Some (v, [])
 more_digits v (b ∷ bs) =
     if is_ascii_digit b then (if grows v then more_digits (10 * v + (b - 48)) bs else None) else Some (v, b ∷ bs)
 
--- `number_at bytes` is the number with which the bytes begin, together with the bytes after this number.
+-- `number_at bytes` is the number with which the list `bytes` begins, together with the bytes after this number. The
+-- result is `None` if the bytes do not begin with a number.
 unfoldable pub number_at : List ℕ → Option (ℕ × List ℕ)
 number_at [] = None
 number_at (b ∷ bs) = if is_ascii_digit b then more_digits (b - 48) bs else None
 
--- `is_word b` is true if the byte b is a letter or a digit.
+-- `is_word b` is true if the byte b is a letter, an underscore or a digit.
 abbrev pub is_word : ℕ → Bool
 is_word b = is_letter b || is_ascii_digit b
 
--- `word_len bytes` is the number of letters and digits with which the bytes begin.
+-- `word_len bytes` is the number of letters, underscores and digits before the first other byte in the list `bytes`.
 abbrev pub word_len : List ℕ → ℕ
 word_len bytes = prefix_len is_word bytes
 
--- `plain_at bytes` is the plain label (a label without quotation marks) with which the bytes begin, together with the
--- bytes after this label. A plain label has at most 8000 letters and digits, and begins with a letter.
+-- `plain_at bytes` is the plain label with which the list `bytes` begins, together with the bytes after this label. A
+-- plain label is a label without quotation marks. It has at most 8000 letters, underscores and digits, and does not
+-- begin with a digit. The result is `None` if the bytes do not begin with a plain label.
 unfoldable pub plain_at : List ℕ → Option (List ℕ × List ℕ)
 plain_at [] = None
 plain_at (b ∷ bs) =
     let n = word_len (b ∷ bs) in
     if is_letter b && nat_le n 8000 then Some (take n (b ∷ bs), drop n (b ∷ bs)) else None
 
--- `last_quote bytes` is the index of the last quotation mark among the bytes.
+-- `last_quote bytes` is the index of the last quotation mark in the list `bytes`, or `None` if there is no quotation
+-- mark.
 unfoldable pub last_quote : List ℕ → Option ℕ
 last_quote [] = None
 last_quote (b ∷ bs) =
@@ -74,15 +81,16 @@ last_quote (b ∷ bs) =
 abbrev pub is_label : List ℕ → Bool
 is_label a = nat_le 1 (length a) && nat_le (length a) 8000 && list_all (λ b. nat_le 0x20 b && nat_le b 0x7E) a
 
--- `quoted_at bytes` is the label before the last quotation mark, together with the bytes after this mark. The result is
--- None if the bytes before the mark are not a label.
+-- `quoted_at bytes` reads a label between quotation marks whose first quotation mark has already been read. The result
+-- is the label before the last quotation mark in the list `bytes`, together with the bytes after this mark. The result
+-- is `None` if there is no quotation mark, or if the bytes before the last one are not a valid label.
 unfoldable pub quoted_at : List ℕ → Option (List ℕ × List ℕ)
 quoted_at bytes = do
   i ← last_quote bytes
   if is_label (take i bytes) then Some (take i bytes, drop (i + 1) bytes) else None
 
--- `label_at bytes` is the label with which the bytes begin, with or without quotation marks, together with the bytes
--- after this label.
+-- `label_at bytes` is the label with which the list `bytes` begins, with or without quotation marks, together with the
+-- bytes after this label. The result is `None` if the bytes do not begin with a label.
 unfoldable pub label_at : List ℕ → Option (List ℕ × List ℕ)
 label_at [] = None
 label_at (b ∷ bs) = if b == 34 then quoted_at bs else plain_at (b ∷ bs)
@@ -91,23 +99,23 @@ label_at (b ∷ bs) = if b == 34 then quoted_at bs else plain_at (b ∷ bs)
 abbrev pub are_blanks : List ℕ → Bool
 are_blanks rest = list_all is_blank rest
 
--- `past_des line` are the bytes after `des`, if the line begins with `des`.
+-- If the line begins with `des`, `past_des line` are the bytes after `des`. Otherwise, the result is `None`.
 unfoldable pub past_des : List ℕ → Option (List ℕ)
 past_des line = do
   rest ← past 100 line
   rest ← past 101 rest
   past 115 rest
 
--- Reads a number and then the byte c, with any number of blanks before each of them. Returns the number and the bytes
--- after c.
+-- `number_then c line` reads a number and then the byte c at the beginning of the line, with any number of blanks
+-- before each of them. The result is the number and the bytes after c.
 unfoldable pub number_then : ℕ → List ℕ → Option (ℕ × List ℕ)
 number_then c line = do
   n ← number_at (after_blanks line)
   rest ← past c (after_blanks n.1)
   Some (n.0, rest)
 
--- `header_at line` are the three numbers of a header: the first state, the number of transitions and the number of
--- states.
+-- If the line is a header, `header_at line` are the three numbers of this header: the first state, the number of
+-- transitions and the number of states. Otherwise, the result is `None`.
 unfoldable pub header_at : List ℕ → Option (ℕ × ℕ × ℕ)
 header_at line = do
   rest ← past_des (after_blanks line)
@@ -117,8 +125,8 @@ header_at line = do
   n ← number_then 41 m.1
   if are_blanks n.1 then Some (f.0, m.0, n.0) else None
 
--- `ending_at rest` are the label and the target of a transition, read from the bytes `rest`, which begin with the
--- label.
+-- `ending_at rest` reads the end of the line of a transition from the bytes `rest`, which begin with the label. The
+-- result is the label and the target of the transition.
 unfoldable pub ending_at : List ℕ → Option (List ℕ × ℕ)
 ending_at rest = do
   a ← label_at rest
@@ -126,7 +134,8 @@ ending_at rest = do
   t ← number_then 41 rest
   if are_blanks t.1 then Some (a.0, t.0) else None
 
--- `transition_at line` are the source, the label and the target of the transition on the line.
+-- If the line is a transition, `transition_at line` are the source, the label and the target of this transition.
+-- Otherwise, the result is `None`.
 unfoldable pub transition_at : List ℕ → Option (ℕ × List ℕ × ℕ)
 transition_at line = do
   rest ← past 40 (after_blanks line)
@@ -134,7 +143,8 @@ transition_at line = do
   e ← ending_at (after_blanks s.1)
   Some (s.0, e.0, e.1)
 
--- `hide_line_at line` is the label on a line of a hide list (the labels to hide).
+-- If the line is a line of a hide list (the labels to hide), `hide_line_at line` is the label on this line. Otherwise,
+-- the result is `None`.
 unfoldable pub hide_line_at : List ℕ → Option (List ℕ)
 hide_line_at line = do
   a ← label_at (after_blanks line)

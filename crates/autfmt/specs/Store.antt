@@ -1,23 +1,24 @@
--- The model of a sink (what an output is written to) that stores its bytes in memory.
+-- This file defines the model of a sink (the object to which the output is written) that stores its bytes in memory.
 use Rattle.std.specs.Prelude.{ℕ, ◌-◌, List, ◌++◌, length, Option, option_map}
 use Rattle.autfmt.specs.Pieces.{capped}
 
--- The state of the sink (what the output is written to). The field `bytes` has the bytes that were written, and
--- `failures` is the number of failures. The field `count` is `None`, or the number of bytes that the sink accepts in
--- all: when it has this number of bytes, each further call fails. The field `most` is `None`, or the greatest number of
--- bytes that the sink accepts in one call.
+-- The state of the sink (the object to which the output is written). The field `bytes` has the bytes that were written,
+-- and `failures` is the number of failures. The field `count` is `None`, or the number of bytes that all calls together
+-- can write: once the sink has this number of bytes, each further call fails. The field `most` is `None`, or the
+-- greatest number of bytes that one call can write.
 pub record Store : Type 0 where
   pub bytes : List ℕ
   pub count : Option ℕ
   pub most : Option ℕ
   pub failures : ℕ
 
--- `taken_count s n` is the number of bytes that the sink (what the output is written to) accepts from a call that
--- offers n bytes. The sink accepts all n bytes, unless the limit for all calls together (`count`) or the limit for one
--- call (`most`) allows fewer.
+-- `taken_count s n` is the number of bytes that a sink (the object to which the output is written) in the state s
+-- accepts from a call that offers n bytes. The sink accepts all n bytes, unless the limit for all calls together
+-- (`s.count`) or the limit for one call (`s.most`) allows fewer.
 abbrev pub taken_count : Store → ℕ → ℕ
 taken_count s n = capped s.most (capped (option_map (λ c. c - length s.bytes) s.count) n)
 
--- `after_put s bs` is the state of the sink (what the output is written to) after the bytes bs were written.
+-- `after_put s bs` is the state of a sink (the object to which the output is written) after the bytes bs were written
+-- to it in the state s.
 abbrev pub after_put : Store → List ℕ → Store
 after_put s bs = record s { bytes = s.bytes ++ bs }

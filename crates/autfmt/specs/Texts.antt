@@ -6,7 +6,7 @@ use Rattle.autfmt.specs.declared.line.TheConstants.{LONGEST_LINE}
 use Rattle.autfmt.specs.Bounds.{Bounds}
 use Rattle.autfmt.specs.Grammar.{Header, TransitionLine}
 
--- `IsOneLine line` holds if the bytes contain no line feed.
+-- `IsOneLine line` holds if the bytes of the line contain no line feed.
 abbrev pub IsOneLine : List ℕ → Type 0
 IsOneLine line = All (λ b. b ≢ 10) line
 
@@ -17,14 +17,15 @@ pub record Cuts (text : List ℕ) (ended : List (List ℕ)) (rest : List ℕ) : 
   pub lines : All IsOneLine ended
   pub one : IsOneLine rest
 
--- `last_line rest` is the last line of a text as a list, where `rest` has the bytes after the last line feed of the
--- text. The list has one line, or is empty if `rest` is empty.
+-- Suppose that `rest` has the bytes after the last line feed of a text. If `rest` is not empty, these bytes are the
+-- last line of the text, and `last_line rest` is the list with this line as its only item. If `rest` is empty,
+-- `last_line rest` is the empty list.
 abbrev pub last_line : List ℕ → List (List ℕ)
 last_line [] = []
 last_line (b ∷ bs) = (b ∷ bs) ∷ []
 
--- `Lines text lines` holds if `lines` are the lines of the text: the parts between its line feeds, except for an empty
--- last part.
+-- `Lines text lines` holds if `lines` are the lines of the text. The lines are the parts of the text between its line
+-- feeds, in their order. If the part after the last line feed is empty, it is not a line.
 abbrev pub Lines : List ℕ → List (List ℕ) → Type 0
 Lines text lines = (ended : List (List ℕ)) × (rest : List ℕ) × Cuts text ended rest × (lines ≡ ended ++ last_line rest)
 
@@ -32,8 +33,9 @@ Lines text lines = (ended : List (List ℕ)) × (rest : List ℕ) × Cuts text e
 abbrev pub IsShort : List ℕ → Type 0
 IsShort line = length line ≤ LONGEST_LINE
 
--- `GoodHeader bounds line f m n` holds if the line is a correct header that declares the first state f, m transitions
--- and n states, and these numbers are within the limits `bounds`.
+-- `GoodHeader bounds line f m n` holds if the line is a correct header, which declares the first state f, m transitions
+-- and n states. The line must not be too long, f must be less than n, and the numbers m and n must be within the limits
+-- `bounds`.
 pub record GoodHeader (bounds : Bounds) (line : List ℕ) (f m n : ℕ) : Type 0 where
   pub short : IsShort line
   pub header : Header line f m n
@@ -41,17 +43,18 @@ pub record GoodHeader (bounds : Bounds) (line : List ℕ) (f m n : ℕ) : Type 0
   pub states : n ≤ bounds.states
   pub transitions : m ≤ bounds.transitions
 
--- `SpellsTransition line e` holds if the line denotes the transition e and is not too long.
+-- `SpellsTransition line e` holds if the line denotes the transition e, and has at most 8192 bytes (`LONGEST_LINE`).
 abbrev pub SpellsTransition : List ℕ → Transition → Type 0
 SpellsTransition line e = IsShort line × TransitionLine line e.source e.label e.target
 
 -- `SpellsAmong n line e` holds if the line denotes the transition e, and the source and the target of e are less than
--- n.
+-- the number n.
 abbrev pub SpellsAmong : ℕ → List ℕ → Transition → Type 0
 SpellsAmong n line e = SpellsTransition line e × IsAmong n e
 
--- `Reads bounds text A` holds if the text denotes the system A, which is within the limits `bounds`. The text consists
--- of the header and one line for each transition of A, in the order in which A lists its transitions.
+-- `Reads bounds text A` holds if the text denotes the system A. The first line of the text is a header with the numbers
+-- of A, which are within the limits `bounds`. Each further line denotes one transition of A, in the order in which A
+-- lists its transitions.
 pub record Reads (bounds : Bounds) (text : List ℕ) (A : System) : Type 0 where
   pub header : List ℕ
   pub lines : List (List ℕ)

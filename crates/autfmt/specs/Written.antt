@@ -1,4 +1,4 @@
--- The text that is written for a system, which is the content of a `.aut` file.
+-- This file defines the text that is written for a system. The text is the content of a `.aut` file.
 use Rattle.std.specs.Prelude.{◌≡◌, ℕ, List, ◌++◌, length, codes, decimal, if◌then◌else◌, Option, Result, Err}
 use Rattle.std.specs.Prelude.{MatchResult}
 use Rattle.std.specs.Io.KnownBytes.{Appends}
@@ -17,60 +17,65 @@ use Rattle.autfmt.specs.Grammar.{is_plain, quoted}
 abbrev pub written_label : List ℕ → List ℕ
 written_label a = if is_plain a then a else quoted a
 
--- `header_of first transitions states` is the header for a first state, a number of transitions and a number of states.
--- It ends with a line feed.
+-- `header_of first transitions states` is the header that declares the first state `first`, the number of transitions
+-- `transitions` and the number of states `states`. The header ends with a line feed.
 abbrev pub header_of : ℕ → ℕ → ℕ → List ℕ
 header_of first transitions states =
     codes "des (" ++ decimal first ++ codes ", " ++ decimal transitions ++ codes ", " ++ decimal states ++ codes ")\n"
 
--- `written_transition e` is the line of the transition e, with its line feed.
+-- `written_transition e` is the line that is written for the transition e, with its line feed.
 abbrev pub written_transition : Transition → List ℕ
 written_transition e =
     codes "(" ++ decimal e.source ++ codes ", " ++ written_label e.label ++ codes ", "
     ++ decimal e.target ++ codes ")\n"
 
--- Compares two transitions by source, then by the bytes of the label, then by target.
+-- `transition_cmp d e` compares the transitions d and e by source, then by the bytes of the label, then by target.
 abbrev pub transition_cmp : Transition → Transition → Ordering
 transition_cmp d e =
     ordering_then (nat_cmp d.source e.source) (ordering_then (slice_cmp nat_cmp d.label e.label)
     (nat_cmp d.target e.target))
 
--- `listed A` is the text that is written for the system A if its transitions are not sorted first. The text has the
--- header, and then one line for each transition, in the order in which A lists its transitions.
+-- `listed A` is the header of the system A, followed by one line for each transition, in the order in which A lists its
+-- transitions.
 abbrev pub listed : System → List ℕ
 listed A = header_of A.first (length A.transitions) A.states ++ flat_map written_transition A.transitions
 
--- `IsInWrittenOrder A B` holds if B is the system A with its transitions sorted in the order in which the writer writes
--- them.
+-- `IsInWrittenOrder A B` holds if B is the system A with its transitions sorted as the writer sorts them: by source,
+-- then by the bytes of the label, then by target.
 pub record IsInWrittenOrder (A B : System) : Type 0 where
   pub first : B.first ≡ A.first
   pub states : B.states ≡ A.states
   pub same : IsPermutation B.transitions A.transitions
   pub sorted : IsSorted transition_cmp B.transitions
 
--- `Text A text` holds if the bytes `text` are the text that is written for the system A.
+-- `Text A text` holds if the bytes `text` are the text that is written for the system A, with sorted transitions.
 abbrev pub Text : System → List ℕ → Type 0
 Text A text = (B : System) × IsInWrittenOrder A B × (text ≡ listed B)
 
--- `GainsText A old new` holds if the text that is written for the system A was added to the bytes of the sink (what an
--- output is written to). If the contract of the sink does not state the bytes of the sink, then `GainsText` does not
--- restrict these bytes.
+-- `GainsText A old new` holds if the text that is written for the system A was added to the bytes in the sink (the
+-- object to which the output is written). The arguments `old` and `new` are the bytes in the sink before and after the
+-- call. If the contract of the sink does not state which bytes it contains, `old` is `None`, and the definition does
+-- not restrict `new`.
 abbrev pub GainsText : System → Option (List ℕ) → Option (List ℕ) → Type 0
 GainsText A old new = (text : List ℕ) × Text A text × Appends old new text
 
--- `GainsPrefix A old new` holds if a prefix of the text that is written for the system A was added to the bytes of the
--- sink (what an output is written to). If the contract of the sink does not state the bytes of the sink, then
--- `GainsPrefix` does not restrict these bytes.
+-- `GainsPrefix A old new` holds if a prefix of the text that is written for the system A was added to the bytes in the
+-- sink (the object to which the output is written). The arguments `old` and `new` are the bytes in the sink before and
+-- after the call. If the contract of the sink does not state which bytes it contains, `old` is `None`, and the
+-- definition does not restrict `new`.
 abbrev pub GainsPrefix : System → Option (List ℕ) → Option (List ℕ) → Type 0
 GainsPrefix A old new = (front back : List ℕ) × Text A (front ++ back) × Appends old new front
 
--- `WritesText A old new result` holds if a call has written the text of the system A to the sink (what an output is
--- written to): the whole text if the call succeeded, and a prefix of the text if the call failed.
+-- `WritesText A old new result` holds if `result` is correct for a call that writes the text of the system A to the
+-- sink (the object to which the output is written). The arguments `old` and `new` are the bytes in the sink before and
+-- after the call. If the call succeeded, it has written the whole text. If the call failed, it has written a prefix of
+-- the text.
 abbrev pub WritesText : {T E : Type 0} → System → Option (List ℕ) → Option (List ℕ) → Result T E → Type 0
 WritesText A old new result = MatchResult result (λ _. GainsText A old new) (λ _. GainsPrefix A old new)
 
--- `failures_after result` is the number of failures of a sink (what the output is written to) after a call of `write`,
--- depending on the result of this call. This number is correct only if the sink had not failed before the call.
+-- `failures_after result` is the number of failures of a sink (the object to which the output is written) after a call
+-- of `write` with this result: 1 if the result is the error `Device`, and 0 otherwise. The sink must not have failed
+-- before the call.
 abbrev pub failures_after : {T : Type 0} → Result T Fault → ℕ
 failures_after (Err Device) = 1
 failures_after _ = 0

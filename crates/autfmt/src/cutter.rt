@@ -1,5 +1,6 @@
-//! The line splitter (`Cutter`) divides the bytes of a source (what an input is read from) into lines. It reads the
-//! bytes in chunks. A line that lies within one chunk is not copied. Any other line is put together in a buffer.
+//! The line splitter (`Cutter`) divides the bytes of a source (the object from which the input is read) into lines. It
+//! reads the bytes in chunks. If a line lies within one chunk, the line is not copied. Otherwise, the parts of the line
+//! are copied to a buffer.
 ghost use Rattle.std.specs.Prelude.{◌≡◌, ℕ, ◌+◌, ◌<◌, List, [], ◌∷◌, ◌++◌, length, take, drop, true, false, IsTrue};
 ghost use Rattle.std.specs.Prelude.{Some, None, Ok, IfSome, IfNone};
 ghost use Rattle.std.specs.List.{slice_range};
@@ -15,8 +16,8 @@ use crate::stream::Broken;
 use memchr::memchr;
 use std::marker::Model;
 
-/// The size of a chunk, which is the largest number of bytes that are read from a source (what an input is read from)
-/// at once.
+/// The size of a chunk: the largest number of bytes that one call takes from a source (the object from which the input
+/// is read).
 const CHUNK: usize = 4096;
 
 /// The result of `Cutter::advance`, which splits off the next line.
@@ -30,22 +31,23 @@ pub(crate) enum Step {
     End,
 }
 
-/// The result of the function `gather`, which takes chunks of bytes from the source (what the input is read from) until
-/// a line ends.
+/// The result of the function `gather`, which takes chunks of bytes from the source (the object from which the input is
+/// read) until a line ends.
 #[derive(Clone, Copy)]
 pub(crate) enum Found {
-    /// The chunk (the bytes that were last read from the input) contains a line feed. The two numbers are the index of
-    /// the first line feed and the length of the chunk.
+    /// The chunk, which begins with the bytes that were last read from the input, contains a line feed. The two numbers
+    /// are the index of the first line feed in the chunk and the number of bytes that were last read.
     Feed(usize, usize),
     /// The line has more than 8192 bytes.
     TooLong,
-    /// The source (what the input is read from) has ended.
+    /// The source (the object from which the input is read) has ended.
     End,
 }
 
-/// The state of the line splitter: the bytes that were last read from the input (`chunk`), the index in this chunk at
-/// which the next line begins (`from`), and the length of the chunk (`to`). The line that was split off last is a range
-/// of the chunk (`span`), or is in the buffer.
+/// The line splitter, which divides the bytes of an input into lines. The first `to` bytes of the array `chunk` are the
+/// bytes that were last read from the input. The next line begins at the index `from` of this array. If `span` is a
+/// range (a start index and an end index), the line that was split off last is this range of `chunk`. If `span` is
+/// `None`, this line is in `buffer`. The field `over` is true if the input has ended.
 #[derive(Drop)]
 pub(crate) struct Cutter {
     chunk: [u8; CHUNK],
@@ -73,7 +75,7 @@ impl Model for Cutter {
 }
 
 impl Cutter {
-    /// Makes a line splitter that has not taken any bytes yet.
+    /// Makes a line splitter that has not read any bytes yet.
     pub(crate) fn new() -> Cutter
         ensures { result ≡ record { line = []; ahead = []; over = false } }
     {
@@ -97,8 +99,8 @@ impl Cutter {
         }
     }
 
-    /// Returns the bytes of the chunk (the bytes that were last read from the input) that come after the line that was
-    /// split off last.
+    /// Returns the bytes that were read from the input but not yet divided into lines. They are the bytes of the chunk
+    /// after the line that was split off last.
     #[inline(always)]
     pub(crate) fn ahead(&self) -> &[u8]
         ensures ahead { result.now ≡ self.now.ahead }
@@ -107,9 +109,9 @@ impl Cutter {
         &self.chunk[self.from..self.to]
     }
 
-    /// Skips the next line. The caller must have read this line, and the line must end within the chunk (the bytes that
-    /// were last read from the input). The number `left` is the number of bytes that follow the line feed of this line
-    /// in the chunk.
+    /// Skips the next line. This line must end within the bytes that `ahead` returns, which were read from the input
+    /// but not yet divided into lines. The argument `left` is the number of these bytes that follow the line feed of
+    /// the line. The call does not change the result of `line`.
     #[inline(always)]
     pub(crate) fn pass(&mut self, left: usize)
         requires { left < length self.old.ahead }
@@ -121,7 +123,8 @@ impl Cutter {
         self.from = self.to - left;
     }
 
-    /// Splits off the next line of the input, and reads further bytes if this line has not been read to its end.
+    /// Splits off the next line of the input. If the end of this line has not been read yet, the function reads further
+    /// bytes from the input.
     pub(crate) fn advance<R: Source>(&mut self, r: &mut R) -> Result<Step, Broken>
         requires { R.failures r.old ≡ 0 }
         ensures step { (got : List ℕ) × Consumes (R.rest r.old) (R.rest r.new) got ×
@@ -142,9 +145,8 @@ impl Cutter {
         self.put_together(r)
     }
 
-    /// Splits off the next line if the bytes that were last read from the input do not contain the end of this line.
-    /// The function reads further chunks of bytes from the source (what the input is read from), and copies the line to
-    /// the buffer.
+    /// Splits off the next line in the case that the end of this line has not been read yet. The function reads further
+    /// chunks of bytes from the source (the object from which the input is read), and copies the line to the buffer.
     fn put_together<R: Source>(&mut self, r: &mut R) -> Result<Step, Broken>
         requires open { self.old.over ≡ false }
         requires one { IsOneLine self.old.ahead }
@@ -175,7 +177,8 @@ impl Cutter {
         }
     }
 
-    /// Returns whether the input ends after the line that was split off last.
+    /// Returns whether the input ends after the lines that were split off so far. If all bytes that were read are
+    /// divided into lines, the function first tries to read further bytes from the input.
     pub(crate) fn is_at_end<R: Source>(&mut self, r: &mut R) -> Result<bool, Broken>
         requires { R.failures r.old ≡ 0 }
         ensures look { (got : List ℕ) × Consumes (R.rest r.old) (R.rest r.new) got ×
@@ -209,8 +212,8 @@ fn line_feed_in(bytes: &[u8]) -> Option<usize>
     memchr(b'\n', bytes)
 }
 
-/// Completes a line whose first bytes are in the buffer. The function takes chunks of bytes from the source (what the
-/// input is read from) until this line ends, and appends the other bytes of the line to the buffer.
+/// Completes a line whose first bytes are in the buffer. The function takes chunks of bytes from the source (the object
+/// from which the input is read) until the line ends, and appends the remaining bytes of the line to the buffer.
 fn gather<R: Source>(chunk: &mut [u8], buffer: &mut LineBuffer, r: &mut R) -> Result<Found, Broken>
     requires room { length chunk.old ≡ CHUNK }
     requires part { IsPart buffer.old }

@@ -1,6 +1,6 @@
-//! Converts up to seven leading digits to a number. All digits are in one word of 64 bits, and are converted at the
-//! same time. The module `core::dec2flt` uses the same steps in a loop for any number of digits. For the sources and
-//! targets of transitions, which are short numbers, this module is faster.
+//! This module converts up to seven leading digits to a number. All digits are in one word of 64 bits, and are
+//! converted at the same time. The module `core::dec2flt` uses the same steps in a loop for any number of digits. The
+//! sources and targets of transitions are short numbers, and for such numbers this module is faster.
 ghost use Rattle.std.specs.Prelude.{◌≡◌, ℕ, ◌-◌, ◌*◌, ◌%◌, ◌^◌, ◌<◌, ◌≤◌, List, length, take, nat_le, IfSome};
 ghost use Rattle.core.specs.Int.Digits.{number_from_digits};
 ghost use Rattle.core.specs.Slice.Scan.{digits_from, flag_word};
@@ -10,9 +10,9 @@ ghost use lib.Lanes.{number_l};
 
 use std::simd::prelude::*;
 
-/// Returns the number of digits with which the bytes begin, and the number that these digits denote. Returns None if
-/// the bytes do not begin with a digit, if they begin with more than seven digits, or if there are fewer than eight
-/// bytes.
+/// Returns the number of digits with which the bytes begin, and the number that these digits denote. The result is
+/// `None` in three cases: the bytes do not begin with a digit, they begin with more than seven digits, or there are
+/// fewer than eight bytes.
 #[inline(always)]
 pub(crate) fn digits_in_front(bytes: &[u8]) -> Option<(usize, u64)>
     ensures { IfSome result (λ x. AreDigitsInFront bytes.now x.0 x.1) }
@@ -32,7 +32,7 @@ pub(crate) fn digits_in_front(bytes: &[u8]) -> Option<(usize, u64)>
     Some((count as usize, value_of_eight(keep_first(lanes, count))))
 }
 
-/// Returns the first eight bytes as one word of 64 bits, in which the first byte is the lowest.
+/// Returns the first eight bytes as one word of 64 bits. The first byte is the lowest byte of the word.
 #[inline(always)]
 pub(crate) fn word_in_front(bytes: &[u8]) -> u64
     requires { 8 ≤ length bytes.now }
@@ -43,8 +43,8 @@ pub(crate) fn word_in_front(bytes: &[u8]) -> u64
 }
 
 /// Returns a word that marks the bytes of `word` that are 10 or more. In the result, the highest bit of each such byte
-/// is set, and all other bits are 0. The function clears the highest bit of each byte and then adds a constant to the
-/// byte, so that no addition carries into the next byte.
+/// is set, and all other bits are 0. The function clears the highest bit of each byte before it adds a constant to the
+/// byte. Therefore no addition carries into the next byte.
 #[inline(always)]
 fn flags_from_ten(word: u64) -> u64
     ensures { (byte : ℕ → ℕ) → ((k : ℕ) → byte k < 256) → word ≡ digits_from byte 0 8
@@ -53,8 +53,8 @@ fn flags_from_ten(word: u64) -> u64
     ((word & 0x7f7f_7f7f_7f7f_7f7f) + 0x7676_7676_7676_7676 | word) & 0x8080_8080_8080_8080
 }
 
-/// Shifts the word to the left, so that its lowest `count` bytes become its highest bytes, and all other bytes are
-/// dropped. The new low bytes are zero.
+/// Shifts the word to the left, so that its lowest `count` bytes become its highest bytes. All other bytes of the word
+/// are dropped. The new low bytes are zero.
 #[inline(always)]
 fn keep_first(word: u64, count: u32) -> u64
     requires { count < 8 }

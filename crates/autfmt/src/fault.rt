@@ -7,14 +7,14 @@ use lts::Memory;
 use std::alloc::{AllocError, AllocFailed};
 use thiserror::Error;
 
-/// The reason why an input or a hide list (the labels to hide) was rejected, or why reading or writing stopped. Lines
+/// The reason why an input or a hide list (the labels to hide) is incorrect, or why reading or writing stopped. Lines
 /// are counted from 1.
 #[derive(Clone, Copy, Debug, PartialEq, Eq, Error)]
 pub enum Fault {
     /// Line 1 is not a header, or the input has no line.
     #[error("bad header")]
     BadHeader,
-    /// The first state is not less than the number of states, which is at least 1.
+    /// The first state is not less than the number of states. The number of states is at least 1.
     #[error("first state out of range")]
     FirstState,
     /// The header declares no states.
@@ -41,10 +41,11 @@ pub enum Fault {
     /// The line with this number follows the last transition that the header declares.
     #[error("line {0}: text after the last transition")]
     ExtraText(u32),
-    /// The input ends after this number of transitions, although the header declares more.
+    /// The input ends after this number of transitions, but the header declares more transitions.
     #[error("only {0} transitions found")]
     MissingEdges(u32),
-    /// A source (what an input is read from) or a sink (what an output is written to) has failed.
+    /// A source (the object from which the input is read) or a sink (the object to which the output is written) has
+    /// failed.
     #[error("read or write failed")]
     Device,
     /// An allocation failed.

@@ -1,5 +1,5 @@
-//! The transitions that a reader has stored so far. The labels are in a label table, and the transitions are triples of
-//! source, label ID and target.
+//! This module stores the transitions that a reader has read so far. The labels are in a label table, and each
+//! transition is a triple of its source, the ID of its label and its target.
 ghost use Rattle.std.specs.Prelude.{◌≡◌, ◌+◌, ◌<◌, ◌≤◌, ◌↔◌, [], length, IsTrue, IsSome, IfSome, IfNone, IfOk, OnOk};
 ghost use Rattle.std.specs.Prelude.{MatchResult};
 ghost use Rattle.theory.specs.System.{IsLabel, hidden_label};
@@ -12,23 +12,25 @@ use crate::hidden::Hidden;
 use lts::{Labels, Memory, Transitions, is_label};
 use std::alloc::Global;
 
-/// The number of slots (entries) in each of the two tables of `Guesses`, which cache the IDs of labels.
+/// The number of slots (entries) in each of the two tables of the cache `Guesses`. This cache stores the IDs of labels.
 const GUESSES: usize = 256;
 
-/// The hash function `guess_slot` multiplies the first eight bytes of a label, read as one number of 64 bits, by this
-/// factor. This applies to labels with at least eight bytes. The factor is odd, and its bits have no regular pattern.
+/// The hash function `guess_slot` reads the first eight bytes of a label as one number of 64 bits, and multiplies this
+/// number by this factor. It does so only for labels with at least eight bytes. The factor is odd, and its bits have no
+/// regular pattern.
 const FIRST_WEIGHT: u64 = 0x9E37_79B9_7F4A_7C15;
 
-/// The hash function `guess_slot` multiplies the bytes at the indices 8 to 15 of a label, read as one number of 64
-/// bits, by this factor. If the label has 8 to 15 bytes, its last eight bytes are multiplied instead.
+/// The hash function `guess_slot` reads the bytes at the indices 8 to 15 of a label as one number of 64 bits, and
+/// multiplies this number by this factor. If the label has 8 to 15 bytes, the function reads the last eight bytes
+/// instead.
 const SECOND_WEIGHT: u64 = 0x9FB2_1C65_1E98_DF25;
 
-/// The hash function `guess_slot` multiplies eight bytes in the middle of a label, read as one number of 64 bits, by
-/// this factor. This applies to labels with at least eight bytes.
+/// The hash function `guess_slot` reads eight bytes in the middle of a label as one number of 64 bits, and multiplies
+/// this number by this factor. It does so only for labels with at least eight bytes.
 const MIDDLE_WEIGHT: u64 = 0xA24B_AED4_963E_E407;
 
-/// The hash function `guess_slot` multiplies the last eight bytes of a label, read as one number of 64 bits, by this
-/// factor. This applies to labels with at least eight bytes.
+/// The hash function `guess_slot` reads the last eight bytes of a label as one number of 64 bits, and multiplies this
+/// number by this factor. It does so only for labels with at least eight bytes.
 const LAST_WEIGHT: u64 = 0xD1B5_4A32_D192_ED03;
 
 /// The transitions that were read so far, with their labels.
@@ -39,12 +41,13 @@ pub(crate) struct Held {
     guesses: Guesses,
 }
 
-/// A cache for the IDs of labels, which consists of two tables. A hash of a label determines the slot of the label,
-/// which is an index of both tables. A table stores in each slot the ID of the label with this slot that was read last.
-/// If the next label with this slot is the same label, its ID is found without a search.
+/// A cache for the IDs of labels. It consists of two tables with the same number of slots (entries). One table is used
+/// for the hidden labels, and the other for all other labels. A hash of a label determines its slot. In each slot, a
+/// table stores the ID of the last label with this slot for which the table was used. If the next label with this slot
+/// is the same label, its ID is found without a search.
 #[derive(Drop)]
 struct Guesses {
-    /// This table is used for labels that are not hidden. Its entries are IDs of the label table.
+    /// This table is used for labels that are not hidden. Its entries are IDs of labels in the label table.
     shown: [u32; GUESSES],
     /// This table is used for hidden labels. Its entries are IDs of labels in the hide list (the labels to hide).
     hidden: [u32; GUESSES],
@@ -66,8 +69,9 @@ impl Held {
         }
     }
 
-    /// Adds a transition, which is given by its source, its label as it is in the input (before hiding), and its
-    /// target. The number `promised` is the number of transitions that the header declares.
+    /// Adds a transition. The argument `read` has its source, its label and its target. The label is the label in the
+    /// input, before hiding. The argument `promised` is the number of transitions that the header declares, and `h` has
+    /// the labels to hide.
     pub(crate) fn add(
         &mut self,
         read: (u32, &[u8], u32),
@@ -86,7 +90,8 @@ impl Held {
         Ok(())
     }
 
-    /// Adds a transition if its label is a valid label, and returns true. Otherwise adds nothing, and returns false.
+    /// Adds a transition as `add` does and returns true, if the label of the transition is valid. Otherwise, adds
+    /// nothing and returns false.
     #[inline(always)]
     pub(crate) fn add_if_label(
         &mut self,
@@ -115,14 +120,14 @@ impl Held {
     }
 }
 
-/// Returns the ID of a label in the label table. If the label is hidden, the result is the ID of the internal action
-/// `i` instead. A label that is not yet in the table is appended to the table. Returns None if the bytes are not a
-/// valid label.
+/// Returns the ID of a label in the label table. If the label is hidden, the function returns the ID of the internal
+/// label `i` instead. If the table does not contain the label yet, the function appends the label to the table. If the
+/// bytes are not a valid label, the result is `None`.
 ///
-/// The function first tries the ID that the cache `Guesses` stores for labels with the same hash. If this is the ID of
-/// the label, the label is already in the table. In this case, the function does not search the table. It also does not
-/// check whether the label is valid, or whether the label is hidden, because each label in the table is valid and is
-/// not changed by hiding.
+/// The function first looks up an ID in the cache `Guesses`, which stores one ID for all labels with the same hash. If
+/// this is the ID of the label, the label is already in the table, and the function does not search the table. In this
+/// case, the function also does not check whether the label is valid or hidden, because each label in the table is
+/// valid, and hiding does not change it.
 #[inline(always)]
 fn label_id(
     labels: &mut Labels,
@@ -163,8 +168,8 @@ fn label_id(
 /// Returns the slot of a label, which is its index in the two tables of `Guesses`. These tables cache the IDs of
 /// labels. Different labels should have different slots. The slot of a label with eight bytes or more depends on its
 /// first 16 bytes, on eight bytes in the middle and on the last eight bytes. The slot of a shorter label depends on its
-/// first byte and its last two bytes. Without the first byte, the labels `PUT !0` and `GET !0` shared a slot, and
-/// reading systems with such labels took 3 to 6 % longer.
+/// first byte and its last two bytes. Without the first byte, the labels `PUT !0` and `GET !0` would share a slot. For
+/// systems with such labels, reading would then take 3 to 6 % longer.
 #[inline(always)]
 fn guess_slot(label: &[u8]) -> usize
     ensures { result < GUESSES }

@@ -1,4 +1,4 @@
-//! The list of the labels that a reader hides.
+//! This module stores the list of the labels that a reader hides.
 ghost use Rattle.std.specs.Prelude.{◌≡◌, ℕ, ◌<◌, List, [], length, Contains, IsSome, MatchOption, OnOk};
 ghost use Rattle.theory.specs.System.{IsLabel};
 ghost use Rattle.memory.specs.declared.limits.TheConstants.{MOST_LABELS};
@@ -9,7 +9,7 @@ use lts::{Labels, Memory};
 use std::alloc::Global;
 use std::marker::Model;
 
-/// The labels that a reader replaces by the internal action `i`.
+/// The labels that a reader replaces by the internal label `i`.
 #[derive(Drop)]
 pub struct Hidden {
     labels: Labels,
@@ -43,8 +43,8 @@ impl Hidden {
         Ok(())
     }
 
-    /// Returns the ID of a label in this list, or `None` if the label is not hidden. The caller may guess the ID: if
-    /// `guess` is the ID of the label, no search is necessary.
+    /// Returns the ID of a label in this list, or `None` if the label is not in the list. The argument `guess` is an ID
+    /// that the label may have. If `guess` is the ID of the label, no search is necessary.
     pub(crate) fn find(&self, label: &[u8], guess: u32) -> Option<u32>
         ensures number { MatchOption result (¬ Contains self.now label.now)
             (λ k. IsLabelId self.now k label.now) }

@@ -1,4 +1,4 @@
-//! Reads a hide list, which has the labels to hide, one on each line.
+//! This module reads a hide list, which has the labels to hide, one on each line.
 ghost use Rattle.std.specs.Prelude.{◌≡◌, ◌↔◌, ℕ, ◌+◌, ◌<◌, ◌≤◌, List, [], ◌∷◌, ◌++◌, length, false, IfSome, Ok, Err};
 ghost use Rattle.std.specs.Prelude.{IfOk, IfErr, OnOk, MatchResult, MatchBool};
 ghost use Rattle.std.specs.Io.KnownBytes.{Consumes, IsAtEnd};
@@ -17,29 +17,31 @@ use crate::limits::MOST_LINES;
 use crate::source::Source;
 use std::alloc::Global;
 
-/// Reads a hide list (the labels to hide): at most 100,000 lines with one label each. On success, the source (what the
-/// list is read from) is at its end.
+/// Reads a hide list, which has the labels to hide, one on each line. The hide list may have at most 100,000 lines. On
+/// success, the source (the object from which the hide list is read) is at its end.
 ///
 /// # Errors
 ///
-/// - `LineTooLong`, `BadHide` or `TooManyHidden`: the first error of the list. The error is returned as soon as no
-///   further bytes could change it. The contract does not say how far the source is read beyond the error.
-/// - `Device`: the source failed, and the bytes that it had returned do not determine an error.
+/// - `LineTooLong`, `BadHide` or `TooManyHidden`: the first error of the hide list. The error is returned as soon as no
+///   further bytes could change it. The contract does not state how many bytes after the error are read from the
+///   source.
+/// - `Device`: the source failed, and the bytes that it had returned before are not enough to show that the hide list
+///   has an error.
 /// - `Memory`: an allocation failed.
 pub fn read_hidden<R: Source>(alloc: Global, r: &mut R) -> Result<Hidden, Fault>
     requires { R.failures r.old ≡ 0 }
 
-    // This clause says what success means and when each error is returned. It refers to the bytes that were read from
-    // the source (what the list is read from).
+    // This clause states what success means and when each error is returned. It is about the bytes that were read from
+    // the source (the object from which the hide list is read).
     ensures outcome { HideAnswers (R.rest r.old) (R.rest r.new) (R.failures r.new) result }
 
-    // If the contract of the source (what the list is read from) states which bytes it contains, these clauses relate
-    // the result to the whole hide list.
+    // If the contract of the source (the object from which the hide list is read) states which bytes the source will
+    // return, these clauses relate the result to the whole hide list.
     ensures labels { IfSome (R.rest r.old) (λ text. IfOk result (HidesAs text)) }
     ensures fault { IfSome (R.rest r.old)
         (λ text. IfErr result (λ f. IsHideFault f → FirstHideFault text f)) }
 
-    // The error is `Device` if and only if the source (what the list is read from) has failed.
+    // The error is `Device` if and only if the source (the object from which the hide list is read) has failed.
     ensures device { (result ≡ Err Fault.Device) ↔ (R.failures r.new ≡ 1) }
     ensures failures { R.failures r.new ≤ 1 }
 {
@@ -66,8 +68,8 @@ fn read_labels<R: Source>(alloc: Global, r: &mut R) -> Result<Hidden, Fault>
     Ok(hidden)
 }
 
-/// Reads the next line, and adds its label to `hidden`. The number `found` is the number of lines that were read
-/// before. Returns false if there is no further line.
+/// Reads the next line of a hide list (the labels to hide), and adds its label to `hidden`. The argument `found` is the
+/// number of lines that were read before. If there is no further line, the function returns false.
 fn read_hide_line<R: Source>(
     cutter: &mut Cutter,
     r: &mut R,

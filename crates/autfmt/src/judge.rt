@@ -1,4 +1,4 @@
-//! The validator checks one line, and returns either its contents or its error.
+//! This module checks one line of an input, and returns either the contents of this line or its error.
 ghost use Rattle.std.specs.Prelude.{◌<◌, ◌≤◌, IfOk, IfErr};
 ghost use Rattle.theory.specs.System.{IsLabel};
 ghost use Rattle.autfmt.specs.declared.limits.TheConstants.{FILE_STATES, FILE_TRANSITIONS, MOST_LINES};
@@ -21,7 +21,8 @@ pub(crate) struct Promise {
     pub(crate) states: u32,
 }
 
-/// Checks that line 1 is a correct header. Returns the numbers that it declares.
+/// Checks that line 1 of an input is a correct header within the limits `lim`. Returns the numbers that the header
+/// declares.
 pub(crate) fn judge_header(line: &[u8], lim: &Limits) -> Result<Promise, Fault>
     requires { IsShort line.now }
     ensures good { IfOk result (λ p. GoodHeader lim.now line.now p.first p.transitions p.states) }
@@ -52,7 +53,8 @@ pub(crate) fn judge_header(line: &[u8], lim: &Limits) -> Result<Promise, Fault>
     })
 }
 
-/// Checks that line `k` is a transition between states of the system. Returns its source, label and target.
+/// Checks that line `k` of an input is a transition between states of the system, whose header declares the numbers
+/// `promise`. Returns the source, the label and the target of the transition.
 pub(crate) fn judge_transition(
     line: &[u8],
     k: u32,

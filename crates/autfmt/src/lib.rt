@@ -16,20 +16,21 @@
 //! sink                                                        takes the bytes, as many at once as it can
 //! ```
 //!
-//! The module `reader` makes a system from a source (what an input is read from), and `hide_reader` makes a list of
-//! labels from a source. The module `writer` writes a system to a sink (what an output is written to).
+//! The module `reader` makes a system from the bytes of a source (the object from which the input is read). The module
+//! `hide_reader` makes a list of labels from the bytes of a source. The module `writer` writes a system to a sink (the
+//! object to which the output is written).
 //!
-//! The contracts of the readers describe all bytes that the source has returned, and do not depend on how many bytes it
-//! has returned in each call (`specs/Outcomes`). A reader reports an error as soon as no further bytes could change it
-//! (`specs/Faults`).
+//! The contracts of the readers are about all bytes that the source has returned. They do not depend on how many bytes
+//! the source has returned in each call (`specs/Outcomes`). A reader reports an error as soon as no further bytes could
+//! change this error (`specs/Faults`).
 //!
 //! The modules whose names end in `laws` contain functions with empty bodies. The contract of each of these functions
-//! states theorems. The main theorems are the following. Each line and each input can be read in at most one way. There
-//! is at most one text that may be written for a system. If a reader reads the text that was written for a system, it
-//! returns this system.
+//! states theorems. The main theorems are the following. Each line can be read in at most one way, and so can each
+//! input. For each system, there is at most one text that may be written for it. If a reader reads the text that was
+//! written for a system, it returns this system.
 //!
-//! A function of this crate that returns the error `Memory` has failed because there was no memory for a vector or a
-//! table that had to grow.
+//! If a function of this crate returns the error `Memory`, there was no memory for a vector or a table that had to
+//! grow.
 #![tactic(auto)]
 
 mod cutter;

@@ -31,8 +31,9 @@ impl Model for Limits {
 }
 
 impl Limits {
-    /// Returns limits for headers: at most `states` states, which must be 1 to 1,000,000, and at most `transitions`
-    /// transitions, which must be 0 to 10,000,000. Returns None for any other numbers.
+    /// Makes the limits that allow a header to declare at most `states` states and at most `transitions` transitions.
+    /// The number `states` must be between 1 and 1,000,000, and the number `transitions` must be between 0 and
+    /// 10,000,000. For other numbers, the result is `None`.
     pub fn new(states: u32, transitions: u32) -> Option<Limits>
         ensures fits { IsSome result ↔ IsWithinFile (bounds states transitions) }
         ensures limits { IfSome result (λ l. l ≡ bounds states transitions) }
@@ -64,7 +65,7 @@ impl Limits {
         let _ = &self.states;
     }
 
-    /// Returns the largest number of states that a header may declare. This number is between 1 and 1,000,000.
+    /// Returns the largest number of states that a header may declare. This result is between 1 and 1,000,000.
     pub fn states(&self) -> u32
         ensures states { result ≡ self.now.states }
         ensures within { IsWithinFile self.now }
@@ -72,7 +73,7 @@ impl Limits {
         self.states
     }
 
-    /// Returns the largest number of transitions that a header may declare. This number is between 0 and 10,000,000.
+    /// Returns the largest number of transitions that a header may declare. This result is between 0 and 10,000,000.
     pub fn transitions(&self) -> u32
         ensures transitions { result ≡ self.now.transitions }
         ensures within { IsWithinFile self.now }

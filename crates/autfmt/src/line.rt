@@ -48,8 +48,8 @@ impl LineBuffer {
         true
     }
 
-    /// Appends all bytes of `b` to the line and returns true. If the line has no room for all of these bytes, the call
-    /// appends nothing and returns false.
+    /// Appends all bytes of `b` to the line and returns true. If the line would then have more than 8192 bytes, the
+    /// call appends nothing and returns false.
     pub(crate) fn extend(&mut self, b: &[u8]) -> bool
         ensures fits { IsTrue result ↔ Fits self.old b.now }
         ensures line { self.new ≡ (if result then self.old ++ b.now else self.old) }
@@ -63,7 +63,7 @@ impl LineBuffer {
         true
     }
 
-    /// The bytes of the line.
+    /// Returns the bytes of the line.
     pub fn line(&self) -> &[u8]
         ensures bytes { result.now ≡ self.now }
         ensures short { length self.now ≤ LONGEST_LINE }

@@ -1,4 +1,5 @@
-//! Reads a system from an input. The input has a header, and then exactly as many transitions as the header declares.
+//! This module reads a system from an input. The input must have a header, and then exactly as many transitions as the
+//! header declares.
 ghost use Rattle.std.specs.Prelude.{◌≡◌, ◌↔◌, ℕ, ◌+◌, ◌<◌, ◌≤◌, List, [], ◌∷◌, ◌++◌, length, false, IsTrue, IfSome};
 ghost use Rattle.std.specs.Prelude.{Err, IfOk, IfErr, OnOk, MatchResult};
 ghost use Rattle.std.specs.Io.KnownBytes.{Consumes, IsAtEnd};
@@ -24,38 +25,40 @@ use crate::usual::transition_in_front;
 use lts::{Lts, Memory, Meter};
 use std::alloc::Global;
 
-/// Reads a whole input as a system. The input has a header of three numbers, and then exactly as many transitions as
-/// the header declares. The limits `lim` bound the numbers that the header may declare. On success, the source (what
-/// the input is read from) is at its end, and the label table contains exactly the labels of the transitions.
+/// Reads a whole input as a system. The input must have a header of three numbers, and then exactly as many transitions
+/// as the header declares. The numbers in the header must not exceed the limits `lim`. On success, the source (the
+/// object from which the input is read) is at its end, and the label table of the system contains exactly the labels of
+/// the transitions.
 ///
 /// # Errors
 ///
 /// - `BadHeader` to `MissingEdges`: the first error of the input. The error is returned as soon as no further bytes
-///   could change it. The contract does not say how far the source is read beyond the error.
-/// - `Device`: the source failed, and the bytes that it had returned do not determine an error.
-/// - `Memory`: an allocation failed, which can happen only after a correct line 1.
+///   could change it. The contract does not state how many bytes after the error are read from the source.
+/// - `Device`: the source failed, and the bytes that it had returned before are not enough to show that the input has
+///   an error.
+/// - `Memory`: an allocation failed. This error can be returned only if line 1 is a correct header.
 pub fn read<M: Meter, R: Source>(alloc: Global, r: &mut R, lim: &Limits) -> Result<Lts<M>, Fault>
     requires { R.failures r.old ≡ 0 }
 
-    // This clause says what success means and when each error is returned. It refers to the bytes that were read from
-    // the source (what the input is read from).
+    // This clause states what success means and when each error is returned. It is about the bytes that were read from
+    // the source (the object from which the input is read).
     ensures outcome { AnswersRead lim.now [] (R.rest r.old) (R.rest r.new)
         (R.failures r.new) result }
 
-    // If the contract of the source (what the input is read from) states which bytes it contains, these clauses relate
-    // the result to the whole input.
+    // If the contract of the source (the object from which the input is read) states which bytes the source will
+    // return, these clauses relate the result to the whole input.
     ensures system { IfSome (R.rest r.old) (λ text. IfOk result (ReadsAs lim.now text [])) }
     ensures fault { IfSome (R.rest r.old)
         (λ text. IfErr result (λ f. IsTextFault f → FirstFault lim.now text f)) }
 
-    // The error is `Device` if and only if the source (what the input is read from) has failed.
+    // The error is `Device` if and only if the source (the object from which the input is read) has failed.
     ensures device { (result ≡ Err Fault.Device) ↔ (R.failures r.new ≡ 1) }
     ensures failures { R.failures r.new ≤ 1 }
 {
     read_system(alloc, r, lim, &Hidden::none(alloc))
 }
 
-/// Reads a whole input as `read` does, but replaces each label in the list `h` by the internal action `i`.
+/// Reads a whole input as `read` does, but replaces each label in the list `h` by the internal label `i`.
 ///
 /// # Errors
 ///
@@ -68,18 +71,18 @@ pub fn read_hiding<M: Meter, R: Source>(
 ) -> Result<Lts<M>, Fault>
     requires { R.failures r.old ≡ 0 }
 
-    // This clause says what success means and when each error is returned. It refers to the bytes that were read from
-    // the source (what the input is read from).
+    // This clause states what success means and when each error is returned. It is about the bytes that were read from
+    // the source (the object from which the input is read).
     ensures outcome { AnswersRead lim.now h.now (R.rest r.old) (R.rest r.new)
         (R.failures r.new) result }
 
-    // If the contract of the source (what the input is read from) states which bytes it contains, these clauses relate
-    // the result to the whole input.
+    // If the contract of the source (the object from which the input is read) states which bytes the source will
+    // return, these clauses relate the result to the whole input.
     ensures system { IfSome (R.rest r.old) (λ text. IfOk result (ReadsAs lim.now text h.now)) }
     ensures fault { IfSome (R.rest r.old)
         (λ text. IfErr result (λ f. IsTextFault f → FirstFault lim.now text f)) }
 
-    // The error is `Device` if and only if the source (what the input is read from) has failed.
+    // The error is `Device` if and only if the source (the object from which the input is read) has failed.
     ensures device { (result ≡ Err Fault.Device) ↔ (R.failures r.new ≡ 1) }
     ensures failures { R.failures r.new ≤ 1 }
 {
@@ -106,7 +109,7 @@ fn read_system<M: Meter, R: Source>(
     Ok(system)
 }
 
-/// Reads a whole input. Returns the numbers that the header declares, and the transitions.
+/// Reads a whole input. Returns the numbers that the header declares, and the transitions that were read.
 fn read_text<R: Source>(
     alloc: Global,
     r: &mut R,
@@ -180,10 +183,11 @@ fn read_transitions<R: Source>(
     Ok(held)
 }
 
-/// Tries to read the next line in a fast way. This succeeds if the line is a transition in its most common written form
-/// and lies within the bytes that were last read from the source (what the input is read from). In this case, the call
-/// stores the transition and returns true. Otherwise, it changes nothing and returns false. This function makes reading
-/// twice as fast.
+/// Tries to read the next line in a fast way. This can succeed only if the line is a correct transition in one of its
+/// most common written forms. The whole line must also be among the bytes that were last read from the source (the
+/// object from which the input is read). On success, the function stores the transition and returns true. If the line
+/// cannot be read in this way, the function changes nothing and returns false. With this function, reading is twice as
+/// fast as without it.
 #[inline(always)]
 fn read_usual(
     cutter: &mut Cutter,
@@ -217,8 +221,8 @@ fn read_usual(
     Ok(true)
 }
 
-/// Reads the transition on the next line, and stores it. The line may have any form that the format allows: with or
-/// without quotation marks around the label, and with blanks between the parts of the line.
+/// Reads the transition on the next line, and stores it. The transition may have any form that the format allows. The
+/// label may be between quotation marks or not, and there may be blanks between the parts of the line.
 #[inline(never)]
 fn read_transition<R: Source>(
     cutter: &mut Cutter,

@@ -1,5 +1,5 @@
-//! A sink is a stream of bytes to which an output is written. This module has a trait for sinks, a sink in memory, and
-//! a sink that wraps any writer of the standard library.
+//! A sink is the object to which the output is written. This module has a trait for sinks, a sink in memory, and a sink
+//! that wraps any writer of the standard library.
 ghost use Rattle.std.specs.Prelude.{◌≡◌, ℕ, ◌<◌, ◌≤◌, ◌↔◌, List, [], length, take, None, Some, IfSome, IsErr, IfOk};
 ghost use Rattle.std.specs.Prelude.{OnOk, OnErr, if◌then◌else◌, Option};
 ghost use Rattle.std.specs.Io.{WritesAtMost};
@@ -13,21 +13,23 @@ use std::alloc::Global;
 use std::io::Write;
 use std::marker::Model;
 
-/// A sink: a stream of bytes to which an output is written. After its first failure, a sink must not be used again.
+/// A sink: the object to which the output is written. It accepts the bytes of the output in chunks. After its first
+/// failure, a sink must not be used again.
 pub trait Sink {
-    // The bytes that were written to the sink. The value is `None` if the contract of the sink does not state these
-    // bytes.
+    // The bytes that were written to the sink (the object to which the output is written). The value is `None` if the
+    // contract of the sink does not state these bytes.
     ghost written: { Self → Option (List ℕ) };
 
-    // The number of failures of the sink (what the output is written to).
+    // The number of failures of the sink (the object to which the output is written).
     ghost failures: { Self → ℕ };
 
-    /// Writes bytes from the beginning of `b` to the sink (what the output is written to). Returns the number of bytes
-    /// that were written, which is at least 1.
+    /// Writes a prefix of `b` to the sink (the object to which the output is written). Returns the number of bytes that
+    /// were written, which is at least 1.
     ///
     /// # Errors
     ///
-    /// If the sink fails, the result is `Broken`. In this case nothing was written, and `failures` is 1 from then on.
+    /// If the sink fails, the result is `Broken`. In this case, nothing was written. The number of failures is 1 from
+    /// then on (`failures`).
     fn put(&mut self, b: &[u8]) -> Result<usize, Broken>
         requires bytes { 0 < length b.now }
         requires sound { failures self.old ≡ 0 }
@@ -36,25 +38,25 @@ pub trait Sink {
         ensures bytes { WriteAppends (written self.old) (written self.new) result b.now }
         ensures failures { CountsFailure result (failures self.new) };
 
-    /// Flushes the bytes that the sink (what the output is written to) has buffered. This call adds no further bytes to
-    /// the output.
+    /// Flushes the sink (the object to which the output is written), so that it passes on all bytes that it has
+    /// buffered. This call adds no further bytes to the output.
     ///
     /// # Errors
     ///
-    /// If the sink fails, the result is `Broken`. In this case `failures` is 1 from then on.
+    /// If the sink fails, the result is `Broken`. The number of failures is 1 from then on (`failures`).
     fn finish(&mut self) -> Result<(), Broken>
         requires { failures self.old ≡ 0 }
         ensures bytes { Keeps (written self.old) (written self.new) }
         ensures failures { CountsFailure result (failures self.new) };
 
-    /// Returns the number of failures of the sink (what the output is written to), which is 0 or 1.
+    /// Returns the number of failures of the sink (the object to which the output is written), which is 0 or 1.
     fn failures(&self) -> u32
         ensures failures { result ≡ failures self.now }
         ensures range { result ≤ 1 };
 }
 
-/// A sink (what an output is written to) that stores its bytes in memory. It can be made to fail once it has a given
-/// number of bytes.
+/// A sink (the object to which the output is written) that stores its bytes in memory. A caller can choose the number
+/// of bytes at which the sink fails.
 #[derive(Drop)]
 pub struct VecSink {
     bytes: Vec<u8>,
@@ -78,8 +80,9 @@ impl Model for VecSink {
 }
 
 impl VecSink {
-    /// Makes an empty sink (what an output is written to) that accepts up to `count` bytes. Once the sink has `count`
-    /// bytes, the next call of `put` or `finish` fails. If `count` is `None`, the sink accepts any number of bytes.
+    /// Makes an empty sink (the object to which the output is written) that accepts up to `count` bytes. Once the sink
+    /// has `count` bytes, the next call of `put` or `finish` fails. If `count` is `None`, the sink accepts any number
+    /// of bytes.
     pub fn new(alloc: Global, count: Option<usize>) -> VecSink
         ensures { result ≡ record { bytes = []; count = count; most = None; failures = 0 } }
     {
@@ -91,15 +94,15 @@ impl VecSink {
         }
     }
 
-    /// The bytes that were written to the sink.
+    /// Returns the bytes that were written to the sink.
     pub fn bytes(&self) -> &[u8]
         ensures { result.now ≡ self.now.bytes }
     {
         self.bytes.as_slice()
     }
 
-    /// Returns this sink (what an output is written to) with the restriction that each call of `put` accepts at most
-    /// `k` bytes.
+    /// Returns this sink (the object to which the output is written) with a restriction: each call of `put` writes at
+    /// most `k` bytes.
     pub fn pieces(self, k: usize) -> VecSink
         requires { 1 ≤ k }
         ensures { result ≡ record self { most = Some k } }
@@ -169,8 +172,8 @@ impl Sink for VecSink {
     }
 }
 
-/// A sink (what an output is written to) that wraps a writer of the standard library. The sink fails if the writer
-/// returns an error, or if the writer writes 0 bytes.
+/// A sink (the object to which the output is written) that wraps a writer of the standard library. The sink fails if
+/// the writer returns an error, or if the writer writes 0 bytes.
 #[derive(Drop)]
 pub struct ToWrite<W> {
     writer: W,
@@ -184,8 +187,8 @@ impl<W> Model for ToWrite<W> {
 }
 
 impl<W: Write> ToWrite<W> {
-    /// Makes a sink that writes to `writer`. If the contract of `writer` states which bytes were written to it, then
-    /// the contract of the sink states this too.
+    /// Makes a sink that writes to `writer`. If the contract of `writer` states which bytes were written to the writer,
+    /// then the contract of the sink states which bytes were written to the sink.
     pub fn new(writer: W) -> ToWrite<W>
         ensures { result ≡ record { inner = writer; failures = 0 } }
     {
@@ -227,8 +230,8 @@ impl<W: Write> Sink for ToWrite<W> {
     }
 }
 
-/// Writes all bytes of `b` to the sink (what the output is written to). For this purpose, it calls `put` as often as
-/// necessary.
+/// Writes all bytes of `b` to the sink (the object to which the output is written). The function calls `put` until no
+/// bytes of `b` remain.
 ///
 /// # Errors
 ///

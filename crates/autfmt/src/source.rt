@@ -1,5 +1,5 @@
-//! A source is a stream of bytes from which an input is read. This module has a trait for sources, a source in memory,
-//! and a source that wraps any reader of the standard library.
+//! A source is the object from which the input is read. This module has a trait for sources, a source in memory, and a
+//! source that wraps any reader of the standard library.
 ghost use Rattle.std.specs.Prelude.{◌≡◌, ℕ, ◌<◌, ◌≤◌, ◌↔◌, List, length, None, Some, IfSome, IsErr, IfOk, OnErr};
 ghost use Rattle.std.specs.Prelude.{if◌then◌else◌, Option};
 ghost use Rattle.std.specs.Io.{ReadsAtMost};
@@ -12,21 +12,23 @@ use crate::stream::{Broken, at_most};
 use std::io::Read;
 use std::marker::Model;
 
-/// A source: a stream of bytes from which an input is read. After its first failure, a source must not be used again.
+/// A source: the object from which the input is read. It returns the bytes of the input in chunks. After its first
+/// failure, a source must not be used again.
 pub trait Source {
-    // The bytes that the source (what the input is read from) will still return. The value is `None` if the contract of
-    // the source does not state these bytes.
+    // The bytes that the source (the object from which the input is read) will still return. The value is `None` if the
+    // contract of the source does not state these bytes.
     ghost rest: { Self → Option (List ℕ) };
 
-    // The number of failures of the source (what the input is read from).
+    // The number of failures of the source (the object from which the input is read).
     ghost failures: { Self → ℕ };
 
-    /// Writes the next bytes of the source (what the input is read from) to the beginning of `buf`. Returns the number
-    /// of these bytes. This number is 0 only at the end of the source.
+    /// Takes the next bytes from the source (the object from which the input is read), and writes them to the beginning
+    /// of `buf`. Returns the number of these bytes. This number is 0 only at the end of the source.
     ///
     /// # Errors
     ///
-    /// If the source fails, the result is `Broken`. In this case no byte is lost, and `failures` is 1 from then on.
+    /// If the source fails, the result is `Broken`. In this case, the source returns no bytes and keeps all bytes that
+    /// it has not yet returned. The number of failures is 1 from then on (`failures`).
     fn take(&mut self, buf: &mut [u8]) -> Result<usize, Broken>
         requires room { 0 < length buf.old }
         requires sound { failures self.old ≡ 0 }
@@ -34,14 +36,14 @@ pub trait Source {
         ensures bytes { ReadConsumes (rest self.old) (rest self.new) result buf.new }
         ensures failures { CountsFailure result (failures self.new) };
 
-    /// Returns the number of failures of the source (what the input is read from), which is 0 or 1.
+    /// Returns the number of failures of the source (the object from which the input is read), which is 0 or 1.
     fn failures(&self) -> u32
         ensures failures { result ≡ failures self.now }
         ensures range { result ≤ 1 };
 }
 
-/// A source (what an input is read from) whose bytes are in memory. It can be made to fail at a given index. The source
-/// is meant for tests and for inputs that are already in memory.
+/// A source (the object from which the input is read) whose bytes are in memory. A caller can choose the index at which
+/// the source fails. This type is meant for tests and for inputs that are already in memory.
 #[derive(Drop)]
 pub struct SliceSource<'a> {
     rest: &'a [u8],
@@ -64,8 +66,9 @@ impl<'a> Model for SliceSource<'a> {
 }
 
 impl<'a> SliceSource<'a> {
-    /// Makes a source (what an input is read from) that returns the bytes of `b` before the index `place` and then
-    /// fails. If `place` is None or greater than the length of `b`, the source never fails.
+    /// Makes a source (the object from which the input is read) with the bytes of `b`. If `place` is a number, the
+    /// source returns the bytes before this index of `b` and then fails. If `place` is `None` or greater than the
+    /// length of `b`, the source never fails.
     pub fn new(b: &'a [u8], place: Option<usize>) -> SliceSource<'a>
         ensures { result ≡ record { rest = b.now; place = place; most = None; failures = 0 } }
     {
@@ -77,8 +80,8 @@ impl<'a> SliceSource<'a> {
         }
     }
 
-    /// Returns this source (what an input is read from) with the restriction that each call of `take` returns at most
-    /// `k` bytes.
+    /// Returns this source (the object from which the input is read) with a restriction: each call of `take` returns at
+    /// most `k` bytes.
     pub fn pieces(self, k: usize) -> SliceSource<'a>
         requires { 1 ≤ k }
         ensures { result ≡ record self.entry { most = Some k } }
@@ -127,8 +130,8 @@ impl<'a> Source for SliceSource<'a> {
     }
 }
 
-/// A source (what an input is read from) that wraps a reader of the standard library. Each error of the reader is a
-/// failure of the source, which never retries a call.
+/// A source (the object from which the input is read) that wraps a reader of the standard library. If a call of the
+/// reader returns an error, the source fails, and does not repeat the call.
 #[derive(Drop)]
 pub struct FromRead<R> {
     reader: R,
@@ -142,8 +145,8 @@ impl<R> Model for FromRead<R> {
 }
 
 impl<R: Read> FromRead<R> {
-    /// Makes a source that takes its bytes from `reader`. If the contract of `reader` states which bytes it will
-    /// return, then the contract of the source states this too.
+    /// Makes a source that takes its bytes from `reader`. If the contract of `reader` states which bytes the reader
+    /// will still return, then the contract of the source states this too.
     pub fn new(reader: R) -> FromRead<R>
         ensures { result ≡ record { inner = reader; failures = 0 } }
     {

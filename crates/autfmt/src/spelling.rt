@@ -1,4 +1,4 @@
-//! Writes lines to a buffer. A line is a header or a transition.
+//! This module writes lines to a buffer. A line is a header or a transition.
 ghost use Rattle.std.specs.Prelude.{◌≡◌, ◌+◌, ◌≤◌, length, take, codes, decimal, ◌++◌, ◌||◌, ◌⊎◌, IfSome};
 ghost use Rattle.std.specs.Char.{is_ascii_digit};
 ghost use Rattle.std.specs.List.{list_all};
@@ -12,18 +12,18 @@ use itoa::{Buffer, write_digits};
 use lts::LONGEST_LABEL;
 use std::marker::Model;
 
-/// The size of an array for the front of a line, which has the bytes before the label: a parenthesis, a number of ten
-/// digits, a comma and a space.
+/// The size of an array for the front of a line. The front has all bytes before the label: a parenthesis, a number of
+/// at most ten digits, a comma and a space.
 const FRONT: usize = 13;
 
-/// The size of an array for the written form of a short label (at most 28 bytes), and for the comma and the space after
-/// the label. The written form may have two quotation marks.
+/// The size of an array for the written form of a short label (at most 28 bytes), followed by a comma and a space. The
+/// written form may have two quotation marks.
 const SHORT: usize = 32;
 
 /// The largest number of digits that a target can have.
 const DIGITS: usize = 10;
 
-/// The largest size of the end of a line: a number of ten digits, a parenthesis and a line feed.
+/// The largest size of the end of a line: a number of ten digits, a closing parenthesis and a line feed.
 const TARGET: usize = 12;
 
 /// The length of the longest possible line: a label of 8000 bytes, two quotation marks, two numbers of ten digits, six
@@ -46,8 +46,7 @@ pub(crate) fn append_header(buffer: &mut [u8], first: u32, transitions: usize, s
     append(buffer, end, b")\n")
 }
 
-/// The front of a line: all bytes before its label. The front is made once for all transitions that have the same
-/// source.
+/// The front of a line: all bytes before its label. The front is made once for all transitions with the same source.
 #[derive(Drop)]
 pub(crate) struct Front {
     source: u32,
@@ -67,7 +66,8 @@ impl Model for Front {
 }
 
 impl Front {
-    /// Makes the front of all lines of transitions with the source `source`: the bytes before the label.
+    /// Makes the front of the lines of all transitions with the source `source`. The front has all bytes before the
+    /// label.
     pub fn new(source: u32) -> Front
         ensures { result ≡ source }
     {
@@ -79,9 +79,9 @@ impl Front {
         Front { source, bytes, len }
     }
 
-    /// Writes the front of a line (the bytes before the label) at the index `end` of the buffer. Returns the index at
-    /// which the front ends. The function copies the whole array, because copying an array of fixed length needs no
-    /// function call.
+    /// Writes the front of a line (all bytes before the label) at the index `end` of the buffer. Returns the index at
+    /// which the front ends. The function copies the whole array of the front, because copying an array of fixed length
+    /// needs no function call.
     fn put(&self, buffer: &mut [u8], end: usize) -> usize
         requires { end + FRONT ≤ length buffer.old }
         ensures text { take result buffer.new ≡ take end buffer.old ++ written_front self.now }
@@ -92,16 +92,16 @@ impl Front {
     }
 }
 
-/// The written form of a label of at most 28 bytes, with the comma and the space after it. For a longer label, no bytes
-/// are stored (`len` is 0).
+/// The written form of a label of at most 28 bytes, followed by a comma and a space. They are the first `len` bytes of
+/// the array `bytes`. If a label is longer, no bytes are stored for it, and `len` is 0.
 #[derive(Clone, Copy)]
 pub(crate) struct Spelled {
     bytes: [u8; SHORT],
     len: u8,
 }
 
-/// Returns the written form of a label of at most 28 bytes, with a comma and a space after it. For a longer label, the
-/// result has no bytes (`len` is 0).
+/// Returns the written form of a label of at most 28 bytes, followed by a comma and a space. If the label is longer,
+/// the result stores no bytes, and its field `len` is 0.
 pub(crate) fn spell(label: &[u8]) -> Spelled
     ensures { IsSpelled label.now result }
 {
@@ -117,8 +117,8 @@ pub(crate) fn spell(label: &[u8]) -> Spelled
     }
 }
 
-/// A label that is to be written. The field `plain` says whether the label may be written without quotation marks. If
-/// the written form of the label was prepared before, it is in the field `spelled`.
+/// A label that is to be written. The field `plain` is true if the label may be written without quotation marks. If the
+/// written form of the label was prepared before, it is in the field `spelled`.
 #[derive(Clone, Copy)]
 pub(crate) struct Word<'a> {
     pub label: &'a [u8],
@@ -126,7 +126,8 @@ pub(crate) struct Word<'a> {
     pub spelled: Option<&'a Spelled>,
 }
 
-/// Writes the line of a transition at the index `end` of the buffer. Returns the index at which the line ends.
+/// Writes the line of a transition at the index `end` of the buffer. The arguments `front`, `word` and `target` are the
+/// front of the line (all bytes before the label), the label and the target. Returns the index at which the line ends.
 pub(crate) fn append_transition(
     buffer: &mut [u8],
     end: usize,
@@ -151,9 +152,9 @@ pub(crate) fn append_transition(
     append_target(buffer, end, target)
 }
 
-/// Writes a label, a comma and a space at the index `end` of the buffer. Returns the index after the space. If the
-/// bytes of the label, the comma and the space were prepared before, the function copies the whole array with these
-/// bytes, because copying an array of fixed length needs no function call.
+/// Writes a label, a comma and a space at the index `end` of the buffer. Returns the index after the space. If these
+/// bytes were prepared before, the function copies the whole array that stores them, because copying an array of fixed
+/// length needs no function call.
 fn append_word(buffer: &mut [u8], end: usize, word: Word<'_>) -> usize
     requires room { (end + SHORT ≤ length buffer.old)
         × (end + 4 + length word.label.now ≤ length buffer.old) }
@@ -174,7 +175,8 @@ fn append_word(buffer: &mut [u8], end: usize, word: Word<'_>) -> usize
 }
 
 /// Writes a target and the end of its line at the index `end` of the buffer. Returns the index at which the line ends.
-/// The function copies `TARGET` bytes for any target, because copying an array of fixed length needs no function call.
+/// The function copies `TARGET` bytes even if the target has fewer digits, because copying an array of fixed length
+/// needs no function call.
 fn append_target(buffer: &mut [u8], end: usize, target: u32) -> usize
     requires { end + TARGET ≤ length buffer.old }
     ensures text { take result buffer.new ≡ take end buffer.old ++ decimal target ++ codes ")\n" }
@@ -186,8 +188,8 @@ fn append_target(buffer: &mut [u8], end: usize, target: u32) -> usize
     end + TARGET - start
 }
 
-/// Writes a label at the index `end` of the buffer, without quotation marks if `plain` is true. Returns the index at
-/// which the label ends.
+/// Writes the written form of a label at the index `end` of the buffer. The argument `plain` is true if the label may
+/// be written without quotation marks. Returns the index at which the written form ends.
 fn append_label(buffer: &mut [u8], end: usize, label: &[u8], plain: bool) -> usize
     requires room { end + 2 + length label.now ≤ length buffer.old }
     requires plain { plain ≡ is_plain label.now }
@@ -212,15 +214,15 @@ pub(crate) fn is_plain(label: &[u8]) -> bool
     is_letter(*first) && are_letters_or_digits(rest) && label.len() <= LONGEST_LABEL
 }
 
-/// Returns whether each byte is a letter or a digit.
+/// Returns whether each byte is a letter, an underscore or a digit.
 fn are_letters_or_digits(bytes: &[u8]) -> bool
     ensures { result ≡ list_all (λ c. is_letter c || is_ascii_digit c) bytes.now }
 {
     bytes.iter().all(|b| is_letter(*b) || b.is_ascii_digit())
 }
 
-/// Writes bytes at the index `end` of the buffer. Returns the index at which the bytes end. Callers use this function
-/// to build an output in a buffer, part after part.
+/// Copies `bytes` to the buffer, beginning at the index `end`. Returns the index at which the copied bytes end. Callers
+/// use this function to build an output in a buffer, part after part.
 pub fn append(buffer: &mut [u8], end: usize, bytes: &[u8]) -> usize
     requires { end + length bytes.now ≤ length buffer.old }
     ensures text { take result buffer.new ≡ take end buffer.old ++ bytes.now }

@@ -1,6 +1,6 @@
-//! Theorems about whole inputs. There is exactly one way to divide an input into lines. Therefore each input either can
-//! be read as exactly one system, or is incorrect, and then exactly one error is its first error. Each theorem is
-//! stated as the contract of a function with an empty body.
+//! This module has theorems about whole inputs. There is exactly one way to divide an input into lines. Each input
+//! either can be read as exactly one system, or has exactly one first error, but not both. Each theorem is stated as
+//! the contract of a function with an empty body.
 ghost use Rattle.std.specs.Prelude.{◌≡◌, ◌≢◌, ◌⊎◌, ◌↔◌, ℕ, List, [], ◌++◌};
 ghost use Rattle.theory.specs.System.{System, Hide};
 ghost use Rattle.autfmt.specs.declared.fault.Fault.{Fault};
@@ -26,7 +26,7 @@ pub fn a_text_has_its_lines()
     ensures one { (text : List ℕ) (k l : List (List ℕ)) → Lines text k → Lines text l → k ≡ l }
 {}
 
-/// Every input can be read as at most one system, and at most one error is its first error (`FirstFault`).
+/// Every input can be read as at most one system. For every input, at most one error is its first error (`FirstFault`).
 pub fn a_text_has_one_reading()
     ensures system { (bounds : Bounds) (text : List ℕ) (A B : System) →
         Reads bounds text A → Reads bounds text B → A ≡ B }
@@ -34,8 +34,8 @@ pub fn a_text_has_one_reading()
         FirstFault bounds text f → FirstFault bounds text g → f ≡ g }
 {}
 
-/// An input has no error (`FirstFault`) if and only if it can be read as a system. If it can be read as a system, its
-/// line 1 is a correct header.
+/// An input can be read as a system if and only if no error is its first error (`FirstFault`). If an input can be read
+/// as a system, its line 1 is a correct header.
 pub fn a_text_reads_or_has_a_fault()
     ensures one { (bounds : Bounds) (text : List ℕ) →
         ((A : System) × Reads bounds text A) ⊎ ((f : Fault) × FirstFault bounds text f) }
@@ -47,12 +47,12 @@ pub fn a_text_reads_or_has_a_fault()
         HasGoodHeader bounds text }
 {}
 
-/// If the bytes that have been read so far determine an error (`JudgedFault`), then this error is the first error of
-/// the whole input, for all bytes that may follow. Now suppose that an input consists of exactly these bytes, and that
-/// this input has an error. Then the bytes determine this error in three cases. In the first case, the error is that a
-/// line is too long. In the second case, the error is that there is a line after the last transition that the header
-/// declares. In the third case, the bytes end with a line feed, and the error is not `MissingEdges` (transitions are
-/// missing).
+/// Suppose that the bytes that have been read so far are enough to show that the input has a certain first error
+/// (`JudgedFault`). Then the whole input has this first error, for all bytes that may follow. Now suppose that an input
+/// consists of exactly the bytes that have been read, and that this input has a first error. Then these bytes are
+/// enough to show this error in three cases. In the first case, the error is that a line is too long. In the second
+/// case, the error is that there is a line after the last transition that the header declares. In the third case, the
+/// bytes end with a line feed, and the error is not `MissingEdges` (transitions are missing).
 pub fn a_judged_fault_is_the_first()
     ensures first { (bounds : Bounds) (given more : List ℕ) (f : Fault) →
         JudgedFault bounds given f → FirstFault bounds (given ++ more) f }
@@ -66,8 +66,8 @@ pub fn a_judged_fault_is_the_first()
         FirstFault bounds given (ExtraText k) → JudgedFault bounds given (ExtraText k) }
 {}
 
-/// A hide list (the labels to hide, one on each line) can be read as at most one list of labels, and at most one error
-/// is its first error (`FirstHideFault`).
+/// A hide list (the labels to hide, one on each line) can be read as at most one list of labels. At most one error is
+/// the first error of a hide list (`FirstHideFault`).
 pub fn a_hide_list_has_one_reading()
     ensures labels { (text : List ℕ) (H K : List (List ℕ)) → HideReads text H →
         HideReads text K → H ≡ K }
@@ -75,8 +75,8 @@ pub fn a_hide_list_has_one_reading()
         FirstHideFault text g → f ≡ g }
 {}
 
-/// A hide list (the labels to hide, one on each line) has no error (`FirstHideFault`) if and only if it can be read as
-/// a list of labels.
+/// A hide list (the labels to hide, one on each line) can be read as a list of labels if and only if no error is its
+/// first error (`FirstHideFault`).
 pub fn a_hide_list_reads_or_has_a_fault()
     ensures one { (text : List ℕ) →
         ((H : List (List ℕ)) × HideReads text H) ⊎ ((f : Fault) × FirstHideFault text f) }
@@ -86,11 +86,12 @@ pub fn a_hide_list_reads_or_has_a_fault()
         ((f : Fault) → ¬ FirstHideFault text f) ↔ ((H : List (List ℕ)) × HideReads text H) }
 {}
 
-/// If the bytes that have been read so far determine an error (`JudgedHideFault`), then this error is the first error
-/// of the whole hide list (the labels to hide), for all bytes that may follow. Now suppose that a hide list consists of
-/// exactly these bytes, and that this hide list has an error. Then the bytes determine this error in three cases. In
-/// the first case, the bytes end with a line feed. In the second case, the error is that a line is too long. In the
-/// third case, the error is that there are too many lines.
+/// Suppose that the bytes that have been read so far are enough to show that the hide list (the labels to hide) has a
+/// certain first error (`JudgedHideFault`). Then the whole hide list has this first error, for all bytes that may
+/// follow. Now suppose that a hide list consists of exactly the bytes that have been read, and that this hide list has
+/// a first error. Then these bytes are enough to show this error in three cases. In the first case, the bytes end with
+/// a line feed. In the second case, the error is that a line is too long. In the third case, the error is that there
+/// are too many lines.
 pub fn a_judged_hide_fault_is_the_first()
     ensures first { (given more : List ℕ) (f : Fault) → JudgedHideFault given f →
         FirstHideFault (given ++ more) f }
@@ -102,8 +103,9 @@ pub fn a_judged_hide_fault_is_the_first()
         JudgedHideFault given TooManyHidden }
 {}
 
-/// Hiding depends only on which labels are in the hide list (the labels to hide), and not on their order or on
-/// repetitions. An empty list hides no label.
+/// Suppose that two hide lists contain the same labels, in any order and with any repetitions. Then hiding the labels
+/// of one list in a system has the same result as hiding the labels of the other list. If a hide list is empty, hiding
+/// its labels does not change the system.
 pub fn hiding_depends_on_the_labels()
     ensures same { (H K : List (List ℕ)) (A : System) → SameLabels H K → Hide H A ≡ Hide K A }
     ensures none { (A : System) → Hide [] A ≡ A }

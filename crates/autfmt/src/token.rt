@@ -1,4 +1,5 @@
-//! Reads the tokens of one line, which is a header, a transition, or a line of a hide list (the labels to hide).
+//! This module reads the tokens of one line. The line is a header, a transition, or a line of a hide list (the labels
+//! to hide).
 
 ghost use Rattle.std.specs.Prelude.{◌≡◌, ◌≢◌, ℕ, ◌<◌, ◌≤◌, ◌^◌, List, length, slice_index, IfSome, IfNone};
 ghost use Rattle.theory.specs.System.{IsLabel};
@@ -9,8 +10,8 @@ ghost use Rattle.autfmt.specs.Reading.{number_then, header_at, ending_at, transi
 
 use lts::{LONGEST_LABEL, is_label};
 
-/// Returns the first state, the number of transitions and the number of states that a header declares. Returns None if
-/// the line is not a header.
+/// Returns the first state, the number of transitions and the number of states that a header declares. If the line is
+/// not a header, the result is `None`.
 pub(crate) fn header_of(line: &[u8]) -> Option<(u64, u64, u64)>
     ensures found { IfSome result (λ x. Header line.now x.0 x.1 x.2) }
     ensures none { IfNone result ((f m n : ℕ) → ¬ Header line.now f m n) }
@@ -18,8 +19,8 @@ pub(crate) fn header_of(line: &[u8]) -> Option<(u64, u64, u64)>
     header_in(line)
 }
 
-/// Returns the source, the label and the target of the transition on a line. Returns None if the line is not a
-/// transition.
+/// Returns the source, the label and the target of the transition on a line. If the line is not a transition, the
+/// result is `None`.
 pub(crate) fn transition_of(line: &[u8]) -> Option<(u64, &[u8], u64)>
     ensures found { IfSome result (λ x. TransitionLine line.now x.0 x.1.now x.2) }
     ensures label { IfSome result (λ x. IsLabel x.1.now) }
@@ -29,7 +30,7 @@ pub(crate) fn transition_of(line: &[u8]) -> Option<(u64, &[u8], u64)>
     transition_in(line)
 }
 
-/// Returns the label on a line of a hide list (the labels to hide). Returns None if the line is not a label.
+/// Returns the label on a line of a hide list (the labels to hide). If the line is not a label, the result is `None`.
 pub(crate) fn hide_line_of(line: &[u8]) -> Option<&[u8]>
     ensures found { IfSome result (λ a. HideLine line.now a.now) }
     ensures label { IfSome result (λ a. IsLabel a.now) }
@@ -102,7 +103,8 @@ fn number_then(mark: u8, line: &[u8]) -> Option<(u64, &[u8])>
     Some((number, rest))
 }
 
-/// Skips `des` at the beginning of the line. Returns the bytes after it, or None if the line does not begin with `des`.
+/// Skips `des` at the beginning of the line, and returns the bytes after it. If the line does not begin with `des`, the
+/// result is `None`.
 #[tactic(auto, unfolding(crate::specs::Reading::past_des))]
 fn past_des(line: &[u8]) -> Option<&[u8]>
     ensures { IsSeenAs (λ r. r.now) result (past_des line.now) }
@@ -112,7 +114,8 @@ fn past_des(line: &[u8]) -> Option<&[u8]>
     past(b's', rest)
 }
 
-/// Skips the first byte if it is `mark`. Returns the bytes after it, or None if the line does not begin with `mark`.
+/// Skips the byte `mark` at the beginning of the line, and returns the bytes after it. If the line does not begin with
+/// `mark`, the result is `None`.
 #[tactic(auto, unfolding(crate::specs::Reading::past))]
 pub(crate) fn past(mark: u8, line: &[u8]) -> Option<&[u8]>
     ensures { IsSeenAs (λ r. r.now) result (past mark line.now) }
@@ -123,8 +126,8 @@ pub(crate) fn past(mark: u8, line: &[u8]) -> Option<&[u8]>
     }
 }
 
-/// Skips leading blanks. In most calls there is no blank or only one space, and the first two cases handle these calls
-/// quickly.
+/// Skips the blanks at the beginning of the line. In most calls there is no blank or only one space. The first two
+/// cases handle these calls quickly.
 #[inline(always)]
 #[tactic(auto, unfolding(crate::specs::Reading::after_blanks))]
 fn after_blanks(line: &[u8]) -> &[u8]
@@ -137,7 +140,7 @@ fn after_blanks(line: &[u8]) -> &[u8]
     }
 }
 
-/// Skips any number of leading blanks.
+/// Skips any number of blanks at the beginning of the line.
 #[inline(never)]
 #[tactic(auto, unfolding(crate::specs::Reading::after_blanks))]
 fn skip_blanks(line: &[u8]) -> &[u8]
@@ -179,9 +182,9 @@ fn number_at(line: &[u8]) -> Option<(u64, &[u8])>
     more_digits(u64::from(*first - b'0'), rest)
 }
 
-/// Completes the reading of a number whose first digits have the value `value`: the function reads its other digits.
-/// Returns the whole number and the bytes after the number. Returns None if a digit follows a leading zero, or if the
-/// number has more than ten digits.
+/// Completes the reading of a number whose first digits were read before and have the value `value`. The line begins
+/// with the remaining digits of the number. Returns the whole number and the bytes after it. The result is `None` if a
+/// digit follows a leading zero, or if the number has more than ten digits.
 #[inline(always)]
 #[tactic(auto, unfolding(crate::specs::Reading::more_digits))]
 fn more_digits(value: u64, line: &[u8]) -> Option<(u64, &[u8])>
@@ -213,8 +216,9 @@ fn label_at(line: &[u8]) -> Option<(&[u8], &[u8])>
     }
 }
 
-/// Reads a quoted label, whose opening quotation mark has already been skipped. The parts of a line after the label
-/// contain no quotation mark. Therefore the last quotation mark of the line ends the label.
+/// Reads a label between quotation marks, whose opening quotation mark has already been skipped. The parts of a line
+/// after the label contain no quotation mark. Therefore the last quotation mark on the line ends the label. Returns the
+/// label and the bytes after this quotation mark.
 fn quoted_at(line: &[u8]) -> Option<(&[u8], &[u8])>
     ensures { IsSeenAs (λ x. (x.0.now, x.1.now)) result (quoted_at line.now) }
 {
@@ -256,7 +260,7 @@ pub(crate) fn plain_at(line: &[u8]) -> Option<(&[u8], &[u8])>
     }
 }
 
-/// Returns the number of letters and digits with which the line begins.
+/// Returns the number of letters, underscores and digits before the first other byte of the line.
 #[inline(always)]
 fn word_len(line: &[u8]) -> usize
     ensures value { result ≡ word_len line.now }
@@ -277,7 +281,7 @@ pub(crate) fn is_letter(b: u8) -> bool
     b.is_ascii_alphabetic() || b == b'_'
 }
 
-/// Returns whether the byte is a letter or a digit.
+/// Returns whether the byte is a letter, an underscore or a digit.
 fn is_word(b: u8) -> bool
     ensures { result ≡ is_word b }
 {

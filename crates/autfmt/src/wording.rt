@@ -1,5 +1,5 @@
-//! Prepares the written form of each label once, and not once for each transition. Labels are listed by rank, which is
-//! their position when all labels are sorted by their bytes.
+//! This module prepares the written form of a label once for all transitions with this label. Labels are listed by
+//! rank, which is their position when all labels are sorted by their bytes.
 ghost use Rattle.std.specs.Prelude.{◌≡◌, ◌<◌, length, map, IfOk, IfErr, IfSome};
 ghost use Rattle.theory.specs.System.{IsLabel};
 ghost use Rattle.lts.specs.Labels.{text_of};
@@ -18,10 +18,10 @@ use std::alloc::Global;
 /// The largest number of labels whose written forms are stored.
 const MOST_SPELLED: usize = 4096;
 
-/// The labels of a system, prepared for writing. The field `entries` has the labels with their IDs, sorted by their
-/// bytes. The field `ranks` has, for each label ID, the position of the label in `entries`. The field `plain` says for
-/// each entry whether its label may be written without quotation marks. The field `spelled` has the written forms of
-/// the labels of the first `MOST_SPELLED` entries, or of all entries if there are fewer.
+/// The labels of a system, prepared for writing. The field `entries` has the labels with their IDs, sorted by the bytes
+/// of the labels. The field `ranks` has, for each label ID, the index of the label in `entries`. The field `plain`
+/// states for each entry whether its label may be written without quotation marks. The field `spelled` has the written
+/// forms of the labels of the first `MOST_SPELLED` entries, or of all entries if there are fewer.
 #[derive(Drop)]
 pub(crate) struct Words<'a> {
     pub entries: Vec<(&'a [u8], u32)>,
@@ -48,8 +48,8 @@ impl<'a> Words<'a> {
         })
     }
 
-    /// Returns the label with the rank `rank` (its position when all labels are sorted by their bytes), and how this
-    /// label is written.
+    /// Returns the label with the rank `rank`, and how this label is written. The rank of a label is its position when
+    /// all labels are sorted by their bytes.
     pub fn word(&self, rank: u32) -> Word<'_>
         requires ready { AreReady self.now }
         requires rank { rank < length self.now.entries.items }
@@ -66,7 +66,7 @@ impl<'a> Words<'a> {
     }
 }
 
-/// Returns, for each label, whether it may be written without quotation marks.
+/// Returns for each entry whether its label may be written without quotation marks.
 fn plain_labels(alloc: Global, entries: &[(&[u8], u32)]) -> Result<Vec<bool>, Fault>
     ensures ok { IfOk result (λ plain. plain.items ≡ map is_plain (texts entries.now)) }
     ensures err { IfErr result (λ fault. fault ≡ Memory) }

@@ -19,13 +19,13 @@ use Rattle.lts.proofs.Visits.{visited_Decides, all_below, in_all}
 abbrev bit : List ℕ → ℕ → ℕ
 bit words k = bit_at (slice_index_or words (k / 64) 0) (k % 64)
 
--- The bit set `words` has one bit for each place (index of a transition). If the bit of the place k is 1, then `words`
--- has a word with this bit.
+-- The bit set `words` has one bit for each place (index of a transition), and 64 bits in each word. If the bit of the
+-- place k is 1, then `words` has the word that contains this bit.
 pub bit_within : (words : List ℕ) (k : ℕ) → bit words k ≡ 1 → k / 64 < length words
 bit_within words k one = grind (arith, one, bit_at-zero, get_or_past)
 
--- These lemmas assume that the place k, which is the index of a transition, is added to the list `places` of visited
--- places, and that the bit of k is set in the bit set.
+-- These lemmas are about a list `places` of visited places (indices of transitions), and a bit set that has the bits of
+-- exactly these places. They assume that the place k is appended to `places`, and that the bit of k is set.
 module _ (places words wide : List ℕ) (k word : ℕ) (have : HaveBits places words)
     (same : (j : ℕ) → slice_index_or wide j 0 ≡ slice_index_or words j 0) (room : k / 64 < length wide)
     (read : word ≡ slice_index_or wide (k / 64) 0) where
@@ -50,9 +50,9 @@ module _ (places words wide : List ℕ) (k word : ℕ) (have : HaveBits places w
         (grind (arith, other, have j, Contains-push_cases places k j, Contains-append_left places (k ∷ []) j))
   ]
 
--- The bit set `words` has one bit for each place (index of a transition). `IsClearing` holds if, for each of the first
--- i places in the list `places`, the word with the bit of this place was set to zero. So each bit that is still 1 in
--- `words` is the bit of a place at the index i or later in the list.
+-- The bit set `words` has one bit for each place (index of a transition). `IsClearing` holds if every bit that is 1 in
+-- `words` is the bit of a place that is at the index i or later in the list `places`. This is the case when the words
+-- with the bits of the first i places in this list were set to zero.
 abbrev pub IsClearing : List ℕ → List ℕ → ℕ → Type 0
 IsClearing places words i = (k : ℕ) → bit words k ≡ 1
     → (j : ℕ) × (i ≤ j) × (j < length places) × (get_or places j 0 ≡ k)
@@ -71,17 +71,17 @@ module _ (below : ℕ) (places words : List ℕ) (k : ℕ) (have : HaveBits plac
   abbrev all : List ℕ
   all = range_with_len 0 below ++ places
 
-  -- The set of visited places contains all places (indices of transitions) less than `below`, and all places whose bit
-  -- is 1. Let k be a place that is not less than `below`. Then the transition at the place k was visited if and only if
-  -- the bit of k is 1.
+  -- A place is the index of a transition. The set of visited places contains all places less than `below`, and all
+  -- places whose bit is 1. Let k be a place that is not less than `below`. Then k was visited if and only if the bit of
+  -- k is 1.
   pub bit_tells : eqb (bit words k) 1 ≡ is_visited all k
   bit_tells = same_from_decides _ _ (Decides-eqb (bit words k) 1) (Decides-like _
       (λ c. let low = All-contains (λ j. j < below) (range_with_len 0 below) k (all_below below) in
       grind (arith, Contains-append_cases (range_with_len 0 below) places k c, high, have k, low))
       (λ one. Contains-append_right (range_with_len 0 below) places k ((have k).0 one)) (visited_Decides all k))
 
-  -- The bit set has one bit for each place (index of a transition). If it has no word for the place k, the transition
-  -- at the place k was not visited.
+  -- The bit set has one bit for each place (index of a transition), and 64 bits in each word. Let k be a place that is
+  -- not less than `below`. If the bit set has no word for the bit of k, then k was not visited.
   pub none_past : length words ≤ k / 64 → is_visited all k ≡ false
   none_past past = sym bit_tells ∙ ne_eqb _ 1 (λ (one : bit words k ≡ 1). omega (arith, past, bit_within words k one))
 

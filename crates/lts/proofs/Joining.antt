@@ -52,10 +52,10 @@ module _ (old new : List (List ℕ)) (states : ℕ) (es : List Triple) (e : Trip
     ]
   ]
 
-  -- A triple represents a transition of the system l if `shift` is added to the source and to the target of the
-  -- transition. Suppose that the triples es represent the first k transitions of l. Suppose also that the triple e
-  -- represents the transition at the index k in the list of all transitions. Then es followed by e represent the first
-  -- k + 1 transitions of l.
+  -- The triples of a union represent the transitions of the system l with `shift` added to the source and the target of
+  -- each transition. Suppose that the triples es represent the first k transitions of l, after the triples of the
+  -- previous system. Suppose also that the triple e represents the transition at the index k in the list of all
+  -- transitions of l. Then es followed by e represent the first k + 1 transitions of l.
   pub joins_next : (l0 : List (List ℕ)) (e0 : List Triple) (shift : ℕ) (l : Grouped) (k : ℕ)
       → states ≡ shift + l.states → k < length l.places → IsTriple (length l.labels) l.states (place_at l.places k)
       → source_of e ≡ shift + source_of (place_at l.places k) → a ≡ text_of l.labels (label_of (place_at l.places k))

@@ -23,7 +23,7 @@ use Rattle.lts.proofs.Filters.{filter-none, filter-whole, filter-filter, filter-
 pub visited_Decides : (visited : List ℕ) (k : ℕ) → Decides (is_visited visited k) (Contains visited k)
 visited_Decides = is_member-Decides Decides-eqb
 
--- If two ranges of numbers are adjacent, their concatenation is one range.
+-- If a range of numbers ends where another range begins, the concatenation of these ranges is one range.
 range-append : (a m n b l : ℕ) → a + m ≡ b → m + n ≡ l → range_with_len a l ≡ range_with_len a m ++ range_with_len b n
 range-append a m n b l e f = same_lists _ _ (search (rules, length-append, length-range_with_len))
     (λ k d h. grind (arith, places, get_or-range_with_len, length-range_with_len))

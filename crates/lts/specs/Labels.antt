@@ -4,7 +4,7 @@ use Rattle.std.specs.List.{All, Contains, slice_index_or}
 use Rattle.memory.specs.declared.limits.TheConstants.{MOST_LABELS}
 use Rattle.theory.specs.System.{IsLabel}
 
--- Returns the bytes of the label with the ID k.
+-- Returns the bytes of the label with the ID k in the table `labels`.
 abbrev pub text_of : List (List ℕ) → ℕ → List ℕ
 text_of labels k = slice_index_or labels k []
 
@@ -13,8 +13,8 @@ pub record IsLabelId (labels : List (List ℕ)) (k : ℕ) (a : List ℕ) : Type 
   pub below : k < length labels
   pub text : text_of labels k ≡ a
 
--- `IsTable` is the invariant of label tables: the entries are labels, different IDs have different labels, and there
--- are at most `MOST_LABELS` labels.
+-- `IsTable` is the invariant of label tables. It holds under three conditions. First, each entry of the table is a
+-- valid label. Second, different IDs have different labels. Third, there are at most `MOST_LABELS` labels.
 pub record IsTable (labels : List (List ℕ)) : Type 0 where
   pub each_label : All IsLabel labels
   pub different : (j k : ℕ) → j < length labels → k < length labels → text_of labels j ≡ text_of labels k → j ≡ k
@@ -25,7 +25,7 @@ pub record KeepsLabels (old new : List (List ℕ)) : Type 0 where
   pub longer : length old ≤ length new
   pub texts : (k : ℕ) → k < length old → text_of new k ≡ text_of old k
 
--- `Interns` holds if `new` is the label table after the label a was interned in the table `old`. If `old` contains a,
--- `new` equals `old`. Otherwise `new` is `old` with a appended.
+-- To intern a label means to append it to a table, unless the table contains this label already. `Interns` holds if the
+-- table `new` results from interning the label a in the table `old`.
 abbrev pub Interns : List (List ℕ) → List ℕ → List (List ℕ) → Type 0
 Interns old a new = (Contains old a × (new ≡ old)) ⊎ (¬ Contains old a × (new ≡ old ++ a ∷ []))

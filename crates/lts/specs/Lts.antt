@@ -7,7 +7,7 @@ use Rattle.theory.specs.System.{System, Transition, IsSystem}
 use Rattle.memory.specs.declared.limits.TheConstants.{MOST_STATES, MOST_TRANSITIONS}
 use Rattle.lts.specs.Labels.{IsTable, text_of}
 
--- A transition as a triple: its source, the ID of its label, and its target.
+-- A triple represents a transition. It has the source of the transition, the ID of its label, and its target.
 abbrev pub Triple : Type 0
 Triple = ℕ × ℕ × ℕ
 
@@ -23,20 +23,21 @@ label_of e = e.1
 abbrev pub target_of : Triple → ℕ
 target_of e = e.2
 
--- The model of an `Lts`: the first state, the number of states, the label table, and the list of all transitions. The
--- place of a transition is its index in this list.
+-- `Grouped` is the model of an `Lts`, which is a system in memory. It has the first state, the number of states, the
+-- label table, and the list of all transitions. The place of a transition is its index in this list.
 pub record Grouped : Type 0 where
   pub first : ℕ
   pub states : ℕ
   pub labels : List (List ℕ)
   pub places : List Triple
 
--- Returns the transition at the place k, which is the index k in the list of all transitions.
+-- The list `places` has all transitions of a system. Returns the transition at the place k, which is the index of this
+-- transition in the list.
 abbrev pub place_at : List Triple → ℕ → Triple
 place_at places k = slice_index_or places k (0, 0, 0)
 
--- Returns the transition that the triple e represents. The triple has a label ID, and the transition has the bytes of
--- the label with this ID.
+-- Returns the transition that the triple e represents. The triple has the ID of a label in the table `labels`, and the
+-- transition has the bytes of this label.
 abbrev pub transition_of : List (List ℕ) → Triple → Transition
 transition_of labels e = record { source = source_of e; label = text_of labels (label_of e); target = target_of e }
 
@@ -58,8 +59,8 @@ row_of s es = filter (λ e. source_of e == s) es
 abbrev pub before : ℕ → List Triple → ℕ
 before s es = length (filter (λ e. nat_lt (source_of e) s) es)
 
--- Groups the list es by source. For each state in ascending order, the result has the transitions in es with this
--- source.
+-- Groups the transitions in es by source. For each of the states from 0 to `states` - 1 in ascending order, the result
+-- has the transitions in es with this source.
 abbrev pub grouped : ℕ → List Triple → List Triple
 grouped states es = flat_map (λ s. row_of s es) (range_with_len 0 states)
 
@@ -70,8 +71,9 @@ pub record IsGrouping (es places : List Triple) : Type 0 where
   pub rows : (s : ℕ) → row_of s places ≡ row_of s es
   pub same : IsPermutation es places
 
--- `Groups` holds if the system B is the system A with its transitions in ascending order of their sources. Transitions
--- with the same source are in the same order as in A.
+-- `Groups` holds if the system B results from the system A by grouping the transitions by source. So B has the same
+-- transitions as A, but in ascending order of their sources. Transitions with the same source are in the same order as
+-- in A.
 pub record Groups (A B : System) : Type 0 where
   pub first : B.first ≡ A.first
   pub states : B.states ≡ A.states
@@ -96,7 +98,10 @@ pub record InRange (labels first states : ℕ) (es : List Triple) : Type 0 where
   pub few_transitions : length es ≤ MOST_TRANSITIONS
   pub each : All (IsTriple labels states) es
 
--- `IsLts` is the invariant of an `Lts`: it holds for the model g of every `Lts`.
+-- `IsLts` is the invariant of an `Lts`, which is a system in memory with the model g. It holds under four conditions.
+-- First, the label table is valid (`IsTable`). Second, all states and label IDs are in range (`InRange`). Third, the
+-- transitions are in ascending order of their sources. Fourth, the system that g represents is well-formed
+-- (`IsSystem`).
 pub record IsLts (g : Grouped) : Type 0 where
   pub table : IsTable g.labels
   pub in_range : InRange (length g.labels) g.first g.states g.places

@@ -2,7 +2,8 @@
 -- file defines the two counts of a meter, and how calls increase these counts.
 use Rattle.std.specs.Prelude.{◌≡◌, ℕ, ◌+◌, ◌*◌, ◌^◌, ◌<◌, ◌≤◌, Result, Ok, Err}
 
--- The counts of a meter: the number of rounds that were begun, and the number of visits (counted reads of transitions).
+-- `Counts` has the two counts of a meter: the number of rounds that were begun, and the number of visits (counted reads
+-- of transitions).
 pub record Counts : Type 0 where
   pub rounds : ℕ
   pub visits : ℕ

@@ -22,8 +22,10 @@ pub record FitsBehind (n m : ℕ) (l : Grouped) : Type 0 where
   pub states : n + l.states ≤ MOST_STATES
   pub transitions : m + length l.places ≤ MOST_TRANSITIONS
 
--- `IsJoined` holds if the sources and targets of the triples es are below `states`, and each label in the table
--- `labels` is the label of some triple in es. So the number of labels is at most the number of triples.
+-- `IsJoined` holds for the part of a union that is already built, which has `states` states, the triples es and the
+-- label table `labels`. It holds under three conditions. First, there are at most `MOST_STATES` states. Second, the
+-- states and label IDs of all triples are in range. Third, each label in the table is the label of some triple. So the
+-- number of labels is at most the number of triples.
 pub record IsJoined (labels : List (List ℕ)) (states : ℕ) (es : List Triple) : Type 0 where
   pub few_states : states ≤ MOST_STATES
   pub each : All (IsTriple (length labels) states) es

@@ -131,8 +131,10 @@ fn end_rows(ends: &mut Vec<u32>, source: usize, end: u32) -> Result<(), AllocErr
     ends.resize(source, end)
 }
 
-/// The row of a state has its outgoing transitions. Returns the first state that is at least `from` and whose row ends
-/// after the index `place`. The transition at the index `place` is in the row of this state.
+/// The row of a state has its outgoing transitions. The list `ends` has, for each state less than its length, the index
+/// after the last transition of the row. Returns the first state that is at least `from` and whose row ends after the
+/// index `place`. The transition at this index is in the row of this state. If no row in `ends` ends after `place`, the
+/// result is the length of `ends`.
 fn row_at(ends: &[u32], from: usize, place: usize) -> usize
     requires passed { (s : ℕ) → s < from → slice_index ends.now s ≤ place }
     requires within { from ≤ length ends.now }

@@ -22,9 +22,9 @@ pub fn fits_together<M: Meter>(a: &Lts<M>, b: &Lts<M>) -> bool
 }
 
 /// Builds the disjoint union of `a` and `b`. The number of states of `a` is added to each state of `b`, and the first
-/// state of the union is the first state of `a`. If both systems have the same label, the union has this label only
-/// once. The label table of the union contains only labels of transitions. The call makes one visit (counted read) for
-/// each transition of both systems.
+/// state of the union is the first state of `a`. A label that occurs in both systems is stored only once. The label
+/// table of the union contains only labels of transitions. The call makes one visit (counted read) for each transition
+/// of both systems.
 pub fn union<M: Meter>(alloc: Global, a: &Lts<M>, b: &Lts<M>, m: &mut M) -> Result<Lts<M>, Memory>
     requires fit { FitTogether a.now b.now }
     requires room { HasRoomFor (M.counted m.old) 0 (length a.now.places + length b.now.places) }

@@ -211,8 +211,8 @@ impl<M: Meter> Lts<M> {
 }
 
 /// A visit is a counted read of a transition. At the end of a round, this function makes further visits and ignores
-/// their results, so that the number of visits in the round equals the number of transitions. The number of visits that
-/// were counted before the round is `before`.
+/// their results, so that the number of visits in the round equals the number of transitions. The argument `before` is
+/// the number of visits that the meter had counted before the round began.
 pub fn visit_rest<M: Meter>(l: &Lts<M>, before: u128, m: &mut M)
     requires begun { before ≤ (M.counted m.old).visits }
     requires few { (M.counted m.old).visits ≤ before + length l.now.places }

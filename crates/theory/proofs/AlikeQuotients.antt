@@ -1,6 +1,6 @@
--- A leader is a state that represents its class, and a class number is the quotient state for a class. If two systems
--- have the same steps (`SameSteps`), they have the same leaders, class numbers and quotients. If the transitions of a
--- quotient are reordered, the result is a quotient.
+-- A leader is the state that represents a class of bisimilar states, and a class number is the quotient state for a
+-- class. If two systems have the same steps (`SameSteps`), they have the same leaders, class numbers and quotients. If
+-- the transitions of a quotient of A are reordered, the result is also a quotient of A.
 use Rattle.std.proofs.Common.{◌≡◌, ◌≢◌, ◌↔◌, ℕ, ◌<◌, sym, ◌∙◌, subst, inl, inr}
 use Rattle.std.specs.List.Sorted.{IsPermutation}
 use Rattle.std.proofs.lemmas.List.Sorted.{IsPermutation-sym, Contains-permutation}
@@ -90,7 +90,7 @@ quotient_alike rel A B Q same quotient =
       once = quotient.once;
     }
 
--- If the transitions of a quotient are reordered, the result is a quotient.
+-- If the transitions of a quotient of A are reordered, the result is also a quotient of A.
 pub quotient_reordered : (rel : Relation) (A Q R : System) → R.first ≡ Q.first → R.states ≡ Q.states
     → IsPermutation R.transitions Q.transitions → Quotient rel A Q → Quotient rel A R
 quotient_reordered rel A Q R first states moved quotient =

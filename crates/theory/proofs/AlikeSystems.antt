@@ -11,7 +11,7 @@ use Rattle.theory.specs.Blocks.{Inert, Signature, SameSignature, EachTwo, Split,
 use Rattle.theory.specs.Alike.{SameSteps}
 use Rattle.theory.proofs.Paths.{leads_map}
 
--- Every system has the same steps as itself.
+-- The relation `SameSteps` is reflexive.
 pub same_steps_refl : (A : System) → SameSteps A A
 same_steps_refl A = record { first = refl; states = refl; steps = λ s a t. (λ h. h, λ h. h) }
 
@@ -22,7 +22,7 @@ same_steps_sym A B same = record {
   steps = λ s a t. ((same.steps s a t).1, (same.steps s a t).0);
 }
 
--- If the transitions of a system are reordered, the result has the same steps.
+-- Suppose that A and B differ only in the order of their transitions. Then A and B have the same steps.
 pub same_steps_permuted : (A B : System) → A.first ≡ B.first → A.states ≡ B.states
     → IsPermutation A.transitions B.transitions
     → SameSteps A B
@@ -46,7 +46,8 @@ reachable_alike A B same s path =
     (subst (λ x. Leads (AnyStep A) x s) same.first path)
 
 -- Let A and B have the same steps, and let C and D have the same steps. If the state t of C matches the steps of the
--- state s of A, then the state t of D matches the steps of the state s of B.
+-- state s of A with respect to the relation R, then the state t of D matches the steps of the state s of B with respect
+-- to R.
 answers_alike : (rel : Relation) (A B C D : System) → SameSteps A B → SameSteps C D → (R : ℕ → ℕ → Type 0) (s t : ℕ)
     → Matches rel A C R s t → Matches rel B D R s t
 answers_alike Strong A B C D one other R s t answers = λ a s' step.
@@ -87,8 +88,8 @@ equivalent_alike rel A B C same b =
     subst (λ x. Bisimilar rel B x C C.first) same.first
     (bisimilar_alike rel A B C C A.first C.first same (same_steps_refl C) b)
 
--- If two systems have the same steps, then each state has the same signature in both systems. This holds for every
--- partition of the states into blocks.
+-- Suppose that two systems have the same steps, and that their states are divided into the same blocks. Then each state
+-- has the same signature in both systems.
 signature_alike : (rel : Relation) (A B : System) → SameSteps A B → (blocks : ℕ → ℕ) (s : ℕ) (a : List ℕ) (b : ℕ)
     → Signature rel A blocks s a b → Signature rel B blocks s a b
 signature_alike Strong A B same blocks s a b (t, step, at) = (t, (same.steps s a t).0 step, at)
@@ -101,9 +102,9 @@ signature_alike Branching A B same blocks s a b (u, t, path, step, at, shown) = 
   shown,
 )
 
--- `SameSignatures` holds if the systems A and B have the same number of states and the same signatures: for every
--- partition into blocks and every state s, the signature of s in A for the relation `one` equals the signature of s in
--- B for the relation `two`.
+-- `SameSignatures` holds under two conditions. First, the systems A and B have the same number of states. Second, for
+-- every partition into blocks and every state s, the signature of s in A for the relation `one` equals the signature of
+-- s in B for the relation `two`. Each of these relations is strong or branching bisimilarity.
 pub record SameSignatures (one two : Relation) (A B : System) : Type 0 where
   pub states : A.states ≡ B.states
   pub shown : (blocks : ℕ → ℕ) (s : ℕ) (a : List ℕ) (b : ℕ) →

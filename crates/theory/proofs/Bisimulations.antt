@@ -58,7 +58,8 @@ bisimulation_or_same rel A R system bisimulation = record {
   ];
 }
 
--- If a relation holds for exactly the pairs for which a bisimulation holds, then it is a bisimulation.
+-- Suppose that the relations R and Q hold for the same pairs of states. If R is a bisimulation, then Q is a
+-- bisimulation.
 pub bisimulation_like : (rel : Relation) (A B : System) (R Q : ℕ → ℕ → Type 0) → ((s t : ℕ) → R s t ↔ Q s t)
     → IsBisimulation rel A B R → IsBisimulation rel A B Q
 bisimulation_like rel A B R Q like bis = record {
@@ -68,7 +69,7 @@ bisimulation_like rel A B R Q like bis = record {
       (bis.back s t ((like s t).1 q));
 }
 
--- The union of two bisimulations is a bisimulation.
+-- If two relations are bisimulations between A and B, their union is a bisimulation between A and B.
 pub bisimulations_joined : (rel : Relation) (A B : System) (R Q : ℕ → ℕ → Type 0) → IsBisimulation rel A B R
     → IsBisimulation rel A B Q → IsBisimulation rel A B (λ s t. R s t ⊎ Q s t)
 bisimulations_joined rel A B R Q r q = record {
@@ -90,8 +91,9 @@ pairs_decided pairs s t =
     (λ c. ((s, t), c, (refl, refl)))
     (some_in (λ x. (x.0 ≡ s) × (x.1 ≡ t)) (λ x. both (same_number x.0 s) (same_number x.1 t)) pairs)
 
--- Suppose that a decidable bisimulation relates two states. Then these states are bisimilar, because the pairs for
--- which the bisimulation holds can be listed.
+-- Two states are bisimilar if some list of pairs is a bisimulation that relates them. Suppose that R is a bisimulation,
+-- that R is decidable, and that R relates s and t. Then s and t are bisimilar, because all pairs for which R holds can
+-- be listed.
 pub bisimilar_by : (rel : Relation) (A B : System) (R : ℕ → ℕ → Type 0) → ((s t : ℕ) → Dec (R s t))
     → IsBisimulation rel A B R
     → (s t : ℕ) → R s t → Bisimilar rel A s B t

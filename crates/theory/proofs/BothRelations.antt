@@ -19,7 +19,8 @@ strong_is_branching A B R meets = record {
   back = λ s t r. answers_strongly B A (λ y x. R x y) t s r (meets.back s t r);
 }
 
--- If a system has no internal step, every silent path is empty, so it ends in the state in which it begins.
+-- A silent path is a path of internal steps. If a system has no internal step, every silent path is empty. So the path
+-- ends in the state in which it begins.
 stays : (B : System) → ((s t : ℕ) → ¬ Internal B s t) → (s t : ℕ) → Silent B s t → s ≡ t
 stays B none s t path = go path.0 s path.1
   where

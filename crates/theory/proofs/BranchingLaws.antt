@@ -75,8 +75,9 @@ branching_split A old new system kept split s u t below su ut same =
       ),
     )
 
--- Suppose that the blocks are closed under silent paths, and that any two states of A which R relates to the same state
--- of B share a block. Then any two such states have equal signatures.
+-- Two states of A are together (`Together`) if the bisimulation R relates them to the same state of B. Suppose that the
+-- blocks are closed under silent paths, and that any two states that are together share a block. Then any two states
+-- that are together have equal signatures.
 module _ (A B : System) (blocks : ℕ → ℕ) (R : ℕ → ℕ → Type 0) (system : IsSystem A) (kept : Kept Branching A blocks)
     (bisimulation : IsBisimulation Branching A B R) (shared : (s t x : ℕ) → R s x → R t x → blocks s ≡ blocks t) where
   -- `Together` holds if R relates the states s and t of A to the same state of B.
@@ -95,8 +96,8 @@ module _ (A B : System) (blocks : ℕ → ℕ) (R : ℕ → ℕ → Type 0) (sys
         | inr goes ↦ (goes.1, leads_on (Internal A) s goes.0 goes.1 goes.2 goes.3, goes.5)
       ])
 
-  -- Suppose that a silent path of B leads from x to y, that R relates s to x, and that R relates some state of A to
-  -- both x and y. Then a path of inert steps leads from s to some state that R relates to y.
+  -- Suppose that a silent path of B leads from x to y. Suppose also that R relates s to x, and that R relates some
+  -- state r of A to both x and y. Then a path of inert steps leads from s to some state that R relates to y.
   inert_followed :
       (x y r s : ℕ) → Silent B x y → R r x → R r y → R s x → (t : ℕ) × Leads (Inert A blocks) s t × R t y
   inert_followed x y r s path rx ry sx =
@@ -104,11 +105,11 @@ module _ (A B : System) (blocks : ℕ → ℕ) (R : ℕ → ℕ → Type 0) (sys
       let same = shared s r x sx rx ∙ shared r found.0 y ry found.2 in
       (found.0, silent_inert A blocks system kept s found.0 (bisimulation.states s x sx).0 found.1 same, found.2)
 
-  -- `Answered` holds if the state t matches a step of s with the label a to s'. Two states of A are together
-  -- (`Together`) if R relates them to the same state of B. There are two ways to match the step. Either a is the
-  -- internal label, and a path of inert steps leads from t to some state t' such that s' and t' are together. Or a path
-  -- of inert steps leads from t to some state t1 such that s and t1 are together, and a step with the label a leads
-  -- from t1 to some state t' such that s' and t' are together.
+  -- Two states of A are together (`Together`) if R relates them to the same state of B. `Answered` holds if the state t
+  -- matches a step of s with the label a to s'. There are two ways to match the step. In the first case, a is the
+  -- internal label, and a path of inert steps leads from t to some state t' such that s' and t' are together. In the
+  -- second case, a path of inert steps leads from t to some state t1 such that s and t1 are together. A step with the
+  -- label a then leads from t1 to some state t' such that s' and t' are together.
   abbrev Answered : ℕ → ℕ → List ℕ → ℕ → Type 0
   Answered s t a s' =
       ((a ≡ internal) × (t' : ℕ) × Leads (Inert A blocks) t t' × Together s' t')
@@ -137,8 +138,8 @@ module _ (A B : System) (blocks : ℕ → ℕ) (R : ℕ → ℕ → Type 0) (sys
             ]
       ]
 
-  -- Let R relate s and t to the same state of B, and let a path of inert steps lead from s to u. Then a path of inert
-  -- steps leads from t to some state t', and R relates u and t' to the same state of B.
+  -- Suppose that R relates s and t to the same state of B, and that a path of inert steps leads from s to u. Then a
+  -- path of inert steps leads from t to some state t'. The states u and t' are related by R to the same state of B.
   inert_path_followed :
       (s u t : ℕ) → Leads (Inert A blocks) s u → Together s t →
       (t' : ℕ) × Leads (Inert A blocks) t t' × Together u t'

@@ -125,8 +125,8 @@ hit_decided : (blocks : ℕ → ℕ) (j b : ℕ) → Dec (Hit blocks j b)
 hit_decided blocks j b = some_below (λ s. blocks s ≡ b) (λ s. same_number (blocks s) b) j
 
 module _ (blocks : ℕ → ℕ) (j : ℕ) where
-  -- If b is not the block ID of the state j, then some state less than j + 1 is in the block b if and only if some
-  -- state less than j is in the block b.
+  -- Suppose that b is not the block ID of the state j. Then some state less than j + 1 is in the block b if and only if
+  -- some state less than j is in the block b.
   hit_other : (b : ℕ) → ¬ (b ≡ blocks j) → Hit blocks j b ↔ Hit blocks (suc j) b
   hit_other b d = (
     λ h. (h.0, omega (arith, h.1), h.2),

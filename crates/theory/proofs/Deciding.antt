@@ -93,8 +93,8 @@ least_to P d n p = go (first_below P d n)
     go (inl h) = (h.0, omega (arith, h.1), h.2, h.3)
     go (inr f) = (n, omega arith, p, f)
 
--- Suppose that an equivalence relation E is decidable. Then a function exists that gives the same value to two numbers
--- if and only if E relates them. This function maps each number to the least number in its class.
+-- Suppose that an equivalence relation E on numbers is decidable. Then a function exists that gives the same value to
+-- two numbers if and only if E relates them. This function maps each number to the least number in its class.
 pub classes_exist : (E : ℕ → ℕ → Type 0) → ((s t : ℕ) → Dec (E s t)) → ((s : ℕ) → E s s) → ((s t : ℕ) → E s t → E t s)
     → ((s t u : ℕ) → E s t → E t u → E s u) → (new : ℕ → ℕ) × ((s t : ℕ) → (new s ≡ new t) ↔ E s t)
 classes_exist E d r y c = (λ s. (least s).0, λ s t. (to s t, from s t))

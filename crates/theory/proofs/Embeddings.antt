@@ -10,8 +10,10 @@ use Rattle.theory.proofs.Paths.{leads_step, leads_append, leads_answered, step_b
 use Rattle.theory.proofs.Deciding.{same_number, below, both, some_in}
 use Rattle.theory.proofs.Bisimulations.{pairs_decided, bisimilar_by}
 
--- `Embeds` holds if the function f maps states of the system A to states of the system U (their images), and maps each
--- step of A to a step of U. Every step of U from the image of a state of A must be the image of a step of A.
+-- `Embeds` holds if the function f embeds the system A in the system U. There are three conditions. First, f maps each
+-- state of A to a state of U, which is called its image. Second, for each step of A from s to t, U has a step from the
+-- image of s to the image of t with the same label. Third, for each step of U from the image of a state s of A, A has a
+-- step from s with the same label to some state t, and the step of U leads to the image of t.
 pub record Embeds (A U : System) (f : ℕ → ℕ) : Type 0 where
   pub below : (s : ℕ) → s < A.states → f s < U.states
   pub there : (s : ℕ) (a : List ℕ) (t : ℕ) → Step A s a t → Step U (f s) a (f t)
@@ -52,8 +54,9 @@ module _ (B V : System) (g : ℕ → ℕ) (embeds : Embeds B V g) where
 
 module _ (A U B V : System) (f g : ℕ → ℕ) (one : Embeds A U f) (other : Embeds B V g) (R Q : ℕ → ℕ → Type 0) where
   -- Let f embed the system A in the system U, and let g embed B in V (`Embeds`), so that the steps of a state
-  -- correspond to the steps of its image. If the state t of B matches the steps of the state s of A, then the image of
-  -- t matches the steps of the image of s.
+  -- correspond to the steps of its image. Suppose that Q relates the images of any two states that R relates. If the
+  -- state t of B matches the steps of the state s of A with respect to R, then the image of t matches the steps of the
+  -- image of s with respect to Q.
   answers_there : (rel : Relation) → ((s t : ℕ) → R s t → Q (f s) (g t))
       → (s t : ℕ) → s < A.states → Matches rel A B R s t → Matches rel U V Q (f s) (g t)
   answers_there Strong into s t low answers = λ a x step.
@@ -75,8 +78,8 @@ module _ (A U B V : System) (f g : ℕ → ℕ) (one : Embeds A U f) (other : Em
       ]
 
   -- Let f embed the system A in the system U, and let g embed B in V (`Embeds`), so that the steps of a state
-  -- correspond to the steps of its image. If the image of t matches the steps of the image of s, then t matches the
-  -- steps of s.
+  -- correspond to the steps of its image. Suppose that R relates any two states whose images are related by Q. If the
+  -- image of t matches the steps of the image of s with respect to Q, then t matches the steps of s with respect to R.
   answers_back : (rel : Relation) → IsSystem A → IsSystem B
       → ((s t : ℕ) → s < A.states → t < B.states → Q (f s) (g t) → R s t)
       → (s t : ℕ) → s < A.states → t < B.states → Matches rel U V Q (f s) (g t) → Matches rel A B R s t
@@ -104,8 +107,8 @@ module _ (A U B V : System) (f g : ℕ → ℕ) (one : Embeds A U f) (other : Em
 
 module _ (rel : Relation) (A U B V : System) (f g : ℕ → ℕ) (one : Embeds A U f) (other : Embeds B V g)
     (pairs : List (ℕ × ℕ)) where
-  -- `Image` holds if the list `pairs` contains a pair such that x is the image of its first state, and y is the image
-  -- of its second state.
+  -- The function f maps states of A to their images in U, and g maps states of B to their images in V. `Image` holds
+  -- for x and y if the list `pairs` contains a pair (s, t) such that x is the image of s, and y is the image of t.
   abbrev Image : ℕ → ℕ → Type 0
   Image x y = (p : ℕ × ℕ) × Contains pairs p × ((f p.0 ≡ x) × (g p.1 ≡ y))
 
@@ -131,8 +134,8 @@ module _ (rel : Relation) (A U B V : System) (f g : ℕ → ℕ) (one : Embeds A
         p.1 p.0 (meets.states p.0 p.1 c).1 (meets.back p.0 p.1 c));
   }
 
-  -- `Beneath` holds for a state s of A and a state t of B if the list `pairs` contains the pair of the image of s and
-  -- the image of t.
+  -- The function f maps states of A to their images in U, and g maps states of B to their images in V. `Beneath` holds
+  -- for a state s of A and a state t of B if the list `pairs` contains the pair of their images.
   abbrev Beneath : ℕ → ℕ → Type 0
   Beneath s t = (s < A.states) × ((t < B.states) × Pairs pairs (f s) (g t))
 

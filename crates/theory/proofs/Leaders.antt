@@ -1,5 +1,5 @@
 -- The leader of a reachable state is the state that represents its class in the quotient. Each reachable state has
--- exactly one leader. It is decidable which state is the leader. States of different classes have different leaders.
+-- exactly one leader. States of different classes have different leaders. It is decidable whether a state is a leader.
 use Rattle.std.proofs.Common.{◌≡◌, ℕ, ◌<◌, ◌≤◌, refl, sym, ◌∙◌, subst, inl, inr, le_antisymm}
 use Rattle.std.proofs.lemmas.Bool.{cases_lt}
 use Rattle.theory.specs.System.{System, IsSystem, Step, AnyStep, Reachable}
@@ -20,7 +20,7 @@ any_step_decided A s t =
     (some_in (λ e. (e.source ≡ s) × (e.target ≡ t)) (λ e. both (same_number e.source s) (same_number e.target t))
     A.transitions)
 
--- A state has at most one leader, which is the state that represents its class.
+-- The leader of a state is the state that represents its class. A state has at most one leader.
 pub leader_unique : (rel : Relation) (A : System) (s l m : ℕ) → Leader rel A s l → Leader rel A s m → l ≡ m
 leader_unique rel A s l m (inl p) (inl q) = p.1 ∙ sym q.1
 leader_unique rel A s l m (inl p) (inr q) = absurd (q.0 p.0)
@@ -47,7 +47,8 @@ module _ (rel : Relation) (A : System) (sys : IsSystem A) where
   leader_fellow s l (inl (b, e)) = subst (Fellow rel A s) (sym e) (first_reachable A, b)
   leader_fellow s l (inr (no_b, least)) = least.0
 
-  -- If two states are bisimilar, they have the same leader, which is the state that represents their class.
+  -- The leader of a state is the state that represents its class. If two states are bisimilar, they have the same
+  -- leader.
   pub leader_carried : (s t l : ℕ) → Bisimilar rel A s A t → Leader rel A s l → Leader rel A t l
   leader_carried s t l b (inl (c, e)) = inl (bisimilar_trans rel A sys t s A.first (bisimilar_sym rel A sys s t b) c, e)
   leader_carried s t l b (inr (no_c, (fellow, least))) = inr (
@@ -58,17 +59,18 @@ module _ (rel : Relation) (A : System) (sys : IsSystem A) where
     ),
   )
 
-  -- If two states have the same leader, which is the state that represents a class, then they are bisimilar.
+  -- The leader of a state is the state that represents its class. If two states have the same leader, they are
+  -- bisimilar.
   pub same_leader_bisimilar : (s t l : ℕ) → Leader rel A s l → Leader rel A t l → Bisimilar rel A s A t
   same_leader_bisimilar s t l h g =
       bisimilar_trans rel A sys s l t (leader_fellow s l h).1 (bisimilar_sym rel A sys t l (leader_fellow t l g).1)
 
-  -- If l is the leader of some state, which means that l represents the class of this state, then l is also its own
-  -- leader.
+  -- The leader of a state is the state that represents its class. If l is the leader of some state, then l is also its
+  -- own leader.
   pub leads_itself : (s l : ℕ) → Leader rel A s l → Leader rel A l l
   leads_itself s l h = leader_carried s l l (leader_fellow s l h).1 h
 
-  -- Every reachable state has a leader, which is the state that represents its class.
+  -- The leader of a state is the state that represents its class. Every reachable state has a leader.
   pub leader_of : (s : ℕ) → Reachable A s → (l : ℕ) × Leader rel A s l
   leader_of s path = go (bisimilar_decided rel A sys s A.first)
     where
@@ -94,15 +96,15 @@ module _ (rel : Relation) (A : System) (sys : IsSystem A) where
       go (yes b) = (A.first, inl (b, refl))
       go (no apart) = least apart
 
-  -- Every leader (every state that represents its class) is reachable, and is its own leader.
+  -- A leader is the state that represents its class. Every leader is reachable, and is its own leader.
   pub is_leader_itself : (l : ℕ) → IsLeader rel A l → Reachable A l × Leader rel A l l
   is_leader_itself l (s, path, h) = ((leader_fellow s l h).0, leads_itself s l h)
 
-  -- Every leader (a state that represents its class) is a state of the system.
+  -- A leader is the state that represents its class. Every leader is a state of the system.
   pub is_leader_below : (l : ℕ) → IsLeader rel A l → l < A.states
   is_leader_below l h = reachable_below A sys l (is_leader_itself l h).0
 
-  -- It is decidable whether a state is a leader, that is, whether it represents its class.
+  -- A leader is the state that represents its class. It is decidable whether a state is a leader.
   pub is_leader_decided : (l : ℕ) → Dec (IsLeader rel A l)
   is_leader_decided l = go (reachable_decided l)
     where
@@ -115,7 +117,8 @@ module _ (rel : Relation) (A : System) (sys : IsSystem A) where
       go (yes path) = own path (same_number (leader_of l path).0 l)
       go (no f) = no (λ h. f (is_leader_itself l h).0)
 
-  -- If two leaders are bisimilar, they are equal, because each class has only one state that represents it.
+  -- A leader is the state that represents its class. If two leaders are bisimilar, they are equal, because each class
+  -- has only one leader.
   pub leaders_apart : (l m : ℕ) → IsLeader rel A l → IsLeader rel A m → Bisimilar rel A l A m → l ≡ m
   leaders_apart l m h g b =
       leader_unique rel A m l m (leader_carried l m l b (is_leader_itself l h).1) (is_leader_itself m g).1

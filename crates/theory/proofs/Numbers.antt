@@ -16,7 +16,8 @@ use Rattle.theory.proofs.Leaders.{leader_unique, first_reachable, reachable_deci
 use Rattle.theory.proofs.Leaders.{leader_carried, same_leader_bisimilar, leads_itself, leader_of, is_leader_itself}
 use Rattle.theory.proofs.Leaders.{is_leader_below, is_leader_decided}
 
--- `IsOther` holds if the state l is a leader, which means that it represents its class, and is not the first state.
+-- A leader is the state that represents its class. `IsOther` holds if the state l is a leader and is not the first
+-- state.
 abbrev IsOther : Relation → System → ℕ → Type 0
 IsOther rel A l = IsLeader rel A l × (l ≢ A.first)
 
@@ -35,7 +36,8 @@ module _ (rel : Relation) (A : System) (sys : IsSystem A) where
       how_many_like (λ m. IsOther rel A m × (m < l)) (λ m. IsLeader rel A m × (m < l) × (m ≢ A.first)) (place l)
       (λ m. (λ h. (h.0.0, h.1, h.0.1), λ h. ((h.0, h.2), h.1))) (tallied (IsOther rel A) is_other_decided l)
 
-  -- `Placed` holds if n is the class number (the quotient state) of the class that the leader l represents.
+  -- A leader is the state that represents its class. `Placed` holds if n is the class number of the leader l. This
+  -- number is the quotient state for the class of l.
   abbrev Placed : ℕ → ℕ → Type 0
   Placed l n = ((l ≡ A.first) × (n ≡ 0)) ⊎ ((l ≢ A.first) × (n ≡ suc (place l)))
 
@@ -80,27 +82,27 @@ module _ (rel : Relation) (A : System) (sys : IsSystem A) where
   led : (s l : ℕ) → Leader rel A s l → IsLeader rel A l
   led s l h = (l, (leader_fellow rel A sys s l h).0, leads_itself rel A sys s l h)
 
-  -- Every reachable state has a class number, which is the quotient state that represents it.
+  -- The class number of a state is the quotient state that represents it. Every reachable state has a class number.
   pub number_of : (s : ℕ) → Reachable A s → (n : ℕ) × Number rel A s n
   number_of s path =
       let found : (l : ℕ) × Leader rel A s l = leader_of rel A sys s path in
       let at : (n : ℕ) × Placed found.0 n = place_of found.0 in
       (at.0, placed_number s found.0 at.0 found.1 at.1)
 
-  -- A state has at most one class number (the quotient state that represents it).
+  -- The class number of a state is the quotient state that represents it. A state has at most one class number.
   pub number_once : (s m n : ℕ) → Number rel A s m → Number rel A s n → m ≡ n
   number_once s m n h g =
       let p : (l : ℕ) × Leader rel A s l × Placed l m = number_placed s m h in
       let q : (l : ℕ) × Leader rel A s l × Placed l n = number_placed s n g in
       placed_once q.0 m n (subst (λ l. Placed l m) (leader_unique rel A s p.0 q.0 p.1 q.1) p.2) q.2
 
-  -- If two states are bisimilar, they have the same class number, which is the quotient state that represents both of
-  -- them.
+  -- The class number of a state is the quotient state that represents it. If two states are bisimilar, they have the
+  -- same class number.
   pub number_carried : (s t n : ℕ) → Bisimilar rel A s A t → Number rel A s n → Number rel A t n
   number_carried s t n b (l, leader, at) = (l, leader_carried rel A sys s t l b leader, at)
 
-  -- If two states have the same class number, which is the quotient state that represents them, then they are
-  -- bisimilar.
+  -- The class number of a state is the quotient state that represents it. If two states have the same class number,
+  -- they are bisimilar.
   pub same_number_bisimilar : (s t n : ℕ) → Number rel A s n → Number rel A t n → Bisimilar rel A s A t
   same_number_bisimilar s t n h g =
       let p : (l : ℕ) × Leader rel A s l × Placed l n = number_placed s n h in
@@ -116,8 +118,8 @@ module _ (rel : Relation) (A : System) (sys : IsSystem A) where
     λ b. number_once t m n (number_carried s t m b h) g,
   )
 
-  -- It is decidable whether s is reachable and has the class number n, which means that the quotient state n represents
-  -- s.
+  -- The class number of a state is the quotient state that represents it. It is decidable whether the state s is
+  -- reachable and has the class number n.
   pub number_decided : (s n : ℕ) → Dec (Reachable A s × Number rel A s n)
   number_decided s n = go (reachable_decided rel A sys s)
     where

@@ -28,7 +28,8 @@ pub leads_on : (R : ℕ → ℕ → Type 0) (s t u : ℕ) → Leads R s t → R 
 leads_on R s t u p r = leads_append R s t u p (leads_step R t u r)
 
 -- Suppose that S can follow each step of R: if R relates s to t, and Q relates s to p, then a path of S leads from p to
--- some q, and Q relates t to q. Then S can follow each path of R in the same way.
+-- some q, and Q relates t to q. Then S can follow each path of R: if a path of R leads from s to t, and Q relates s to
+-- p, then a path of S leads from p to some q, and Q relates t to q.
 pub leads_answered :
     (R S Q : ℕ → ℕ → Type 0) →
     ((s t p : ℕ) → R s t → Q s p → (q : ℕ) × Leads S p q × Q t q) →

@@ -12,7 +12,8 @@ use Rattle.theory.proofs.Deciding.{same_number, same_bytes, both}
 use Rattle.theory.proofs.Paths.{leads_map, leads_append, reachable_on}
 use Rattle.theory.proofs.Numbers.{number_of, first_number, number_below}
 
--- `Numbered` holds if the state s is reachable, and the quotient state n represents s (the class number of s is n).
+-- The class number of a reachable state is the quotient state that represents it. `Numbered` holds if the state s is
+-- reachable and has the class number n.
 abbrev pub Numbered : Relation → System → ℕ → ℕ → Type 0
 Numbered rel A s n = Reachable A s × Number rel A s n
 
@@ -54,8 +55,8 @@ module _ (rel : Relation) (A Q : System) (sys : IsSystem A) (quotient : Quotient
   }
 
   -- Suppose that the reachable state s has a step to t with the label a. Let n be the quotient state that represents s.
-  -- Then some quotient state m represents t. Moreover, the quotient has a step from n to m with the label a, or it
-  -- leaves out such steps (`IsDropped`).
+  -- Then some quotient state m represents t, and the quotient has a step from n to m with the label a, unless it leaves
+  -- out such a step (`IsDropped`).
   pub step_numbered : (s n : ℕ) (a : List ℕ) (t : ℕ) → Numbered rel A s n → Step A s a t →
       (m : ℕ) × Numbered rel A t m × (Step Q n a m ⊎ IsDropped rel (record { source = n; label = a; target = m }))
   step_numbered s n a t (path, number) step =

@@ -12,8 +12,8 @@ use Rattle.theory.proofs.Leaders.{first_reachable}
 use Rattle.theory.proofs.Numbers.{number_once, number_carried, same_number_bisimilar, number_decided, first_number}
 use Rattle.theory.proofs.QuotientLaws.{Numbered, reachable_silent, number_state, step_numbered}
 
--- `Fellows` holds if A has a step with the label a from some state x to some state y, if the quotient states n and m
--- represent x and y, and if x is bisimilar to s.
+-- `Fellows` holds if some state x of A is bisimilar to s and has a step with the label a to some state y. The quotient
+-- state n must represent x, and the quotient state m must represent y.
 abbrev Fellows : Relation → System → ℕ → ℕ → List ℕ → ℕ → Type 0
 Fellows rel A s n a m = (x y : ℕ) × Bisimilar rel A x A s × Step A x a y × Number rel A x n × Number rel A y m
 

@@ -1,5 +1,6 @@
--- Lemmas about repeated splits, which begin with one block. The system and the relation determine the partition after k
--- splits. The blocks after the first split that changes nothing are the classes of bisimilar states.
+-- Lemmas about repeated splits, which begin with one block. For a given system and relation, all functions from states
+-- to block IDs that result from k splits describe the same partition. The blocks after the first split that changes
+-- nothing are the classes of bisimilar states.
 use Rattle.std.proofs.Common.{◌≡◌, ◌⊎◌, ◌↔◌, ℕ, zero, suc, ◌<◌, refl, sym, ◌∙◌, inl, inr}
 use Rattle.theory.specs.System.{System, IsSystem}
 use Rattle.theory.specs.Bisimulation.{IsBisimulation, Pairs, Bisimilar}
@@ -84,7 +85,7 @@ module _ (rel : Relation) (A : System) (sys : IsSystem A) where
       (same_blocks_trans A old' new' new same'
       (same_split old' new' old new split' split (same_blocks_sym A old old' alike)))
 
-  -- If a bisimulation relates two states, these states share a block after each split.
+  -- If a bisimulation relates two states, these states share a block after any number of splits.
   pub related_share : (R : ℕ → ℕ → Type 0) → IsBisimulation rel A A R → (k : ℕ) (blocks : ℕ → ℕ) → After rel A k blocks
       → (s t : ℕ) → R s t → Share A blocks s t
   related_share R bis zero blocks h s t r =
@@ -93,13 +94,14 @@ module _ (rel : Relation) (A : System) (sys : IsSystem A) where
   related_share R bis (suc k) blocks h s t r =
       bisimulation_survives rel A h.0 blocks R sys (after_kept k h.0 h.1) h.2 bis (related_share R bis k h.0 h.1) s t r
 
-  -- If a partition is stable, two states that share a block are bisimilar.
+  -- A partition is stable if any two states that share a block have equal signatures. If a partition is stable, two
+  -- states that share a block are bisimilar.
   pub share_bisimilar : (blocks : ℕ → ℕ) → Stable rel A blocks → (s t : ℕ) → Share A blocks s t → Bisimilar rel A s A t
   share_bisimilar blocks stable =
       bisimilar_by rel A A (Share A blocks) (share_decided A blocks)
       (stable_bisimulation rel A blocks (Share A blocks) sys stable (λ s t. (λ h. h, λ h. h)))
 
-  -- If two states are bisimilar, they share a block after each split.
+  -- If two states are bisimilar, they share a block after any number of splits.
   pub bisimilar_share : (k : ℕ) (blocks : ℕ → ℕ) → After rel A k blocks → (s t : ℕ) → Bisimilar rel A s A t →
       Share A blocks s t
   bisimilar_share k blocks after s t (pairs, bis, r) = related_share (Pairs pairs) bis k blocks after s t r
@@ -112,14 +114,15 @@ module _ (rel : Relation) (A : System) (sys : IsSystem A) where
     bisimilar_share k blocks after s t,
   )
 
-  -- If a bisimulation relates two states of A to the same state of B, these two states share a block after each split.
+  -- If a bisimulation relates two states of A to the same state of B, these two states share a block after any number
+  -- of splits.
   pub across_share : (B : System) (R : ℕ → ℕ → Type 0) → IsBisimulation rel A B R
       → (k : ℕ) (blocks : ℕ → ℕ) → After rel A k blocks → (s t x : ℕ) → R s x → R t x → blocks s ≡ blocks t
   across_share B R bis zero blocks h s t x r q = h s t (bis.states s x r).0 (bis.states t x q).0
   across_share B R bis (suc k) blocks h s t x r q =
       across_survives rel A B h.0 blocks R sys (after_kept k h.0 h.1) h.2 bis (across_share B R bis k h.0 h.1) s t x r q
 
-  -- If two states of A are bisimilar to the same state of B, these two states share a block after each split.
+  -- If two states of A are bisimilar to the same state of B, these two states share a block after any number of splits.
   pub bisimilar_to_one_share : (B : System) (k : ℕ) (blocks : ℕ → ℕ) → After rel A k blocks
       → (s t x : ℕ) → Bisimilar rel A s B x → Bisimilar rel A t B x → blocks s ≡ blocks t
   bisimilar_to_one_share B k blocks h s t x (ps, bis, r) (qs, bis', q) =

@@ -24,8 +24,9 @@ pub split_kept :
 split_kept Strong A old new system kept split = tt
 split_kept Branching A old new system kept split = branching_split A old new system kept split
 
--- Suppose that the blocks are closed under silent paths (`Kept`), and that any two states of A which R relates to the
--- same state of B share a block. Then any two such states have equal signatures.
+-- Let R be a bisimulation between A and B. Two states of A are together if R relates them to the same state of B.
+-- Suppose that the blocks are closed under silent paths (`Kept`), and that any two states that are together share a
+-- block. Then any two states that are together have equal signatures.
 pub across_same :
     (rel : Relation) (A B : System) (blocks : ℕ → ℕ) (R : ℕ → ℕ → Type 0) →
     IsSystem A → Kept rel A blocks → IsBisimulation rel A B R →
@@ -35,8 +36,9 @@ across_same Strong A B blocks R system kept bisimulation shared = strong_same A 
 across_same Branching A B blocks R system kept bisimulation shared =
     branching_same A B blocks R system kept bisimulation shared
 
--- Suppose that the blocks are closed under silent paths (`Kept`), and that any two states of A which R relates to the
--- same state of B share a block. Then any two such states share a block after a split.
+-- Let R be a bisimulation between A and B. Two states of A are together if R relates them to the same state of B.
+-- Suppose that the blocks are closed under silent paths (`Kept`), and that any two states that are together share a
+-- block before a split. Then any two states that are together share a block after the split.
 pub across_survives :
     (rel : Relation) (A B : System) (old new : ℕ → ℕ) (R : ℕ → ℕ → Type 0) →
     IsSystem A → Kept rel A old → Split rel A old new → IsBisimulation rel A B R →
@@ -46,8 +48,8 @@ across_survives rel A B old new R system kept split bisimulation shared s t x sx
     (split s t (bisimulation.states s x sx).0 (bisimulation.states t x tx).0).1
     (shared s t x sx tx, across_same rel A B old R system kept bisimulation shared s t x sx tx)
 
--- Suppose that the blocks are closed under silent paths (`Kept`), and that any two states which the bisimulation R
--- relates share a block. Then any two such states share a block after a split.
+-- Let R be a bisimulation. Suppose that the blocks are closed under silent paths (`Kept`), and that any two states that
+-- R relates share a block before a split. Then any two states that R relates share a block after the split.
 pub bisimulation_survives :
     (rel : Relation) (A : System) (old new : ℕ → ℕ) (R : ℕ → ℕ → Type 0) →
     IsSystem A → Kept rel A old → Split rel A old new → IsBisimulation rel A A R →
@@ -73,7 +75,8 @@ pub stable_answers :
 stable_answers Strong A blocks system stable = strong_answers A blocks system stable
 stable_answers Branching A blocks system stable = branching_answers A blocks system stable
 
--- If a partition is stable, the relation that holds for any two states in the same block is a bisimulation.
+-- A partition is stable if any two states that share a block have equal signatures. If a partition is stable, the
+-- relation that holds for any two states in the same block is a bisimulation.
 pub stable_bisimulation :
     (rel : Relation) (A : System) (blocks : ℕ → ℕ) (R : ℕ → ℕ → Type 0) →
     IsSystem A → Stable rel A blocks → ((s t : ℕ) → R s t ↔ Share A blocks s t) → IsBisimulation rel A A R

@@ -25,13 +25,15 @@ stood xs i j d p q k inside =
       ]
     ]
 
--- If two elements of a list are at different indices after the swap, they were at different indices before the swap.
+-- Suppose that two elements of a list are swapped. If two elements are at different indices after the swap, they were
+-- at different indices before the swap.
 differ : (i j a b m n : ℕ) → Stood i j a m → Stood i j b n → a ≢ b → m ≢ n
 differ i j a b m n one other apart same = omega (arith, one, other, apart, same)
 
 -- The following lemmas assume that the relation R is symmetric.
 module _ {X : Type 0} (R : X → X → Type 0) (turn : (x y : X) → R x y → R y x) where
-  -- If R relates each element to each later element, then R relates the elements at any two different indices.
+  -- If R relates each element of a list to each later element, then R relates the elements at any two different
+  -- indices.
   two_places : (xs : List X) → AllPairs R xs → (i j : ℕ) (d : X) → i ≢ j → i < length xs → j < length xs →
       R (get_or xs i d) (get_or xs j d)
   two_places xs pairs i j d differ low high = elim (leb_tells i j) [

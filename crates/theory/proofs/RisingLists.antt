@@ -1,5 +1,5 @@
--- Lemmas about strictly increasing lists of numbers. The set of the numbers in such a list determines the length of the
--- list.
+-- Lemmas about strictly increasing lists of numbers. If two such lists contain the same numbers, they have the same
+-- length.
 use Rattle.std.proofs.Common.{◌≡◌, ◌↔◌, ℕ, suc, ◌+◌, ◌<◌, ◌≤◌, List, [], ◌∷◌, ◌++◌, length, slice_index, Contains, sym}
 use Rattle.std.proofs.Common.{◌∙◌, ap, subst, subst₂, inl, inr, arith, le_antisymm, zero-le, length-append}
 use Rattle.std.specs.List.Sorted.{IsStrictlyIncreasing}

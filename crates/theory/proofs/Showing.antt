@@ -1,5 +1,6 @@
--- An inert step is an internal step between bisimilar states. Let s and t be bisimilar states, and let s have no inert
--- steps. Suppose that t has a step that is not inert. Then s matches this step by a single step.
+-- For branching bisimilarity, an inert step is an internal step between bisimilar states. For strong bisimilarity, no
+-- step is inert. Let s and t be bisimilar states, and let s have no inert steps. Suppose that a step of t is not inert.
+-- Then s has a step with the same label, and the targets of the two steps are bisimilar.
 use Rattle.std.proofs.Common.{◌↔◌, ℕ, List, [], ◌∷◌, refl, sym, subst}
 use Rattle.theory.specs.System.{System, IsSystem, Step, internal}
 use Rattle.theory.specs.Bisimulation.{Bisimilar}
@@ -46,9 +47,9 @@ module _ (A : System) (sys : IsSystem A) (blocks : ℕ → ℕ) where
           let first = step_below A sys s internal w way.0.0 in
           absurd (none internal w way.0.0 (refl, (is s w).0 (first.0, first.1, sym way.0.1)))
 
--- Let s and t be bisimilar states, and let s have no inert steps. Suppose that t has a step that is not inert. Then s
--- matches this step by a single step. The proof uses a stable partition whose blocks are the classes of bisimilar
--- states.
+-- Let s and t be bisimilar states, and let s have no inert steps. Suppose that a step of t with the label a leads to u,
+-- and that this step is not inert. Then some step of s with the label a leads to a state that is bisimilar to u. The
+-- proof uses a stable partition whose blocks are the classes of bisimilar states.
 pub all_made : (rel : Relation) (A : System) (s t : ℕ) (a : List ℕ) (u : ℕ) → IsSystem A → Bisimilar rel A s A t →
     ((b : List ℕ) (v : ℕ) → Step A s b v → ¬ ShowsNothing rel A s b v) → Step A t a u → ¬ ShowsNothing rel A t a u →
     Makes rel A s a u

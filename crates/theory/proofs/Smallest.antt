@@ -66,8 +66,8 @@ module _ (rel : Relation) (A Q B : System) (sys : IsSystem A) (quotient : Quotie
       (number_carried rel A sys s h.0 n alike number)
   number_at_is t s n path related number (no f) = absurd (f (s, reachable_below A sys s path, (path, related)))
 
-  -- Each state n of the quotient is the result of `number_at` for some state t of B: it is the quotient state that
-  -- represents the reachable states of A that the bisimulation relates to t.
+  -- The function `number_at` maps a state t of B to the quotient state that represents the reachable states of A that
+  -- the bisimulation relates to t. For each quotient state n, the function maps some state of B to n.
   number_used : (n : ℕ) → n < Q.states → (t : ℕ) × (t < B.states) × (number_at t (met_decided t) ≡ n)
   number_used n low =
       let taken : (s : ℕ) × Reachable A s × Number rel A s n = number_taken rel A sys Q.states quotient.states n low in

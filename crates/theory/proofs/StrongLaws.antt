@@ -6,8 +6,9 @@ use Rattle.theory.specs.declared.relation.Relation.TheVariants.{Strong}
 use Rattle.theory.specs.Blocks.{Signature, SameSignature, Stable, Share}
 use Rattle.theory.proofs.Paths.{step_below}
 
--- Suppose that any two states of A which R relates to the same state of B share a block. Then any two such states have
--- equal signatures.
+-- Let R be a strong bisimulation between A and B. Two states of A are together if R relates them to the same state of
+-- B. Suppose that any two states that are together share a block. Then any two states that are together have equal
+-- signatures.
 module _ (A B : System) (blocks : ℕ → ℕ) (R : ℕ → ℕ → Type 0) (bisimulation : IsBisimulation Strong A B R)
     (shared : (s t x : ℕ) → R s x → R t x → blocks s ≡ blocks t) where
   strong_within :

@@ -13,8 +13,8 @@ use Rattle.theory.proofs.Refinement.{bisimilar_to_one_share}
 use Rattle.theory.proofs.Counting.{block_count, block_count_at_most, block_count_some, split_cases, same_blocks_decided}
 use Rattle.theory.proofs.Counting.{parting_adds}
 
--- `Grown` holds if each of the first k splits has changed something (`Underway`), and if there are more than k blocks
--- after these splits.
+-- `Grown` holds under two conditions. First, each of the first k splits has changed something, and `blocks` is the
+-- partition after these splits (`Underway`). Second, this partition has more than k blocks.
 record Grown (rel : Relation) (A : System) (k : ℕ) (blocks : ℕ → ℕ) : Type 0 where
   pub underway : Underway rel A k blocks
   pub many : k < block_count A blocks

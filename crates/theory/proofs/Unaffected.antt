@@ -110,8 +110,8 @@ module _ (A : System) (sys : IsSystem A) (blocks : ℕ → ℕ) (first_new : ℕ
     | inr only ↦ inr (subst (IsOnlyMember A blocks) (sym (only s ls (sym (inert_same A blocks s u way)))) only)
   ]
 
-  -- `GivesNew` holds if the signature of s contains the pair of the label of the transition e and the block of the
-  -- target of e, and if this block is new (made by the split).
+  -- `GivesNew` holds under two conditions. First, the signature of s contains the pair (label, target block) of the
+  -- transition e. Second, this block is new, which means that its ID is at least `first_new`.
   abbrev GivesNew : ℕ → Transition → Type 0
   GivesNew s e = Signature Branching A blocks s e.label (blocks e.target) × (first_new ≤ blocks e.target)
 

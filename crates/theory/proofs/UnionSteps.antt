@@ -9,9 +9,9 @@ use Rattle.theory.specs.Union.{shifted, union_of}
 use Rattle.theory.proofs.Paths.{step_below}
 use Rattle.theory.proofs.Embeddings.{Embeds}
 
--- Let the list of images be the list that results from applying the function f to each element of a list. If the list
--- contains x, then the list of images contains the image of x. The next lemma states the converse: every element of the
--- list of images is the image of some element of the list.
+-- Let f be a function. If the list xs contains x, then the list that results from applying f to each element of xs
+-- contains f x. The next lemma states the converse: every element of the resulting list is f x for some element x of
+-- xs.
 contains_image : {X Y : Type 0} (f : X → Y) (xs : List X) (x : X) → Contains xs x → Contains (map f xs) (f x)
 contains_image f xs x c = (c.0, omega (arith, c.1, length-map xs f), get_or-map f xs c.0 x (f x) c.1 ∙ ap f c.2)
 
@@ -67,7 +67,7 @@ module _ (A B : System) where
       Contains-append_right A.transitions (map (shifted A.states) B.transitions) (shifted A.states e)
       (contains_image (shifted A.states) B.transitions e step)
 
-  -- Each of the two systems is embedded in the union.
+  -- Each of the systems A and B is embedded in the union of A and B (`Embeds`).
   pub embeds_left : Embeds A (union_of A B) (λ s. s)
   embeds_left = record {
     below = λ s l. omega (arith, l);

@@ -11,8 +11,9 @@ abbrev pub Inert : System → (ℕ → ℕ) → ℕ → ℕ → Type 0
 Inert A blocks s t = Internal A s t × (blocks t ≡ blocks s)
 
 -- `Signature` holds if the signature of the state s contains the pair (a, b) of a label and a block. For strong
--- bisimilarity, a step with the label a must lead from s to a state in b. For branching bisimilarity, such a step must
--- lead from a state that s reaches by inert steps, and the step itself must not be inert.
+-- bisimilarity, this means that a step with the label a leads from s to a state in b. For branching bisimilarity, it
+-- means that a step with the label a leads from some state u to a state in b. The state s must reach u by a path of
+-- inert steps, and the step from u must not be inert.
 abbrev pub Signature : Relation → System → (ℕ → ℕ) → ℕ → List ℕ → ℕ → Type 0
 Signature Strong A blocks s a b = (t : ℕ) × Step A s a t × (blocks t ≡ b)
 Signature Branching A blocks s a b =
@@ -40,9 +41,9 @@ SameBlocks A old new = EachTwo A (λ s t. (new s ≡ new t) ↔ (old s ≡ old t
 abbrev pub Stable : Relation → System → (ℕ → ℕ) → Type 0
 Stable rel A blocks = EachTwo A (λ s t. blocks s ≡ blocks t → SameSignature rel A blocks s t)
 
--- `Kept` holds if the blocks are closed under silent paths, which are paths of internal steps. For branching
--- bisimilarity, this means that a silent path which begins and ends in a block has all of its states in this block. For
--- strong bisimilarity, `Kept` always holds.
+-- For branching bisimilarity, `Kept` holds if the blocks are closed under silent paths, which are paths of internal
+-- steps. This means: if a silent path begins and ends in a block, all of its states are in this block. For strong
+-- bisimilarity, `Kept` always holds.
 abbrev pub Kept : Relation → System → (ℕ → ℕ) → Type 0
 Kept Strong A blocks = Unit {0}
 Kept Branching A blocks =
@@ -56,8 +57,7 @@ Share A blocks s t = (s < A.states) × (t < A.states) × (blocks s ≡ blocks t)
 abbrev pub OneBlock : System → (ℕ → ℕ) → Type 0
 OneBlock A blocks = EachTwo A (λ s t. blocks s ≡ blocks t)
 
--- `After` holds if `blocks` is the partition after k splits. The first split divides the partition that has only one
--- block.
+-- `After` holds if `blocks` is the partition after k splits. The partition before the first split has only one block.
 abbrev pub After : Relation → System → ℕ → (ℕ → ℕ) → Type 0
 After rel A zero blocks = OneBlock A blocks
 After rel A (suc k) blocks = (old : ℕ → ℕ) × After rel A k old × Split rel A old blocks
@@ -72,8 +72,8 @@ pub record Turns (rel : Relation) (A : System) (k : ℕ) : Type 0 where
   pub last : ChangesNothing rel A k
   pub least : (j : ℕ) → j < k → ¬ ChangesNothing rel A j
 
--- `Underway` holds if refinement is in progress: `blocks` is the partition after k splits, and each of these splits has
--- changed something.
+-- `Underway` holds if refinement is in progress after k splits. There are two conditions. First, `blocks` is the
+-- partition after k splits. Second, each of these splits has changed something.
 pub record Underway (rel : Relation) (A : System) (k : ℕ) (blocks : ℕ → ℕ) : Type 0 where
   pub after : After rel A k blocks
   pub changed : (j : ℕ) → j ≤ k → ¬ ChangesNothing rel A j

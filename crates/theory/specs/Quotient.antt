@@ -21,9 +21,9 @@ HowMany P n = (xs : List ℕ) × IsStrictlyIncreasing xs × ((k : ℕ) → Conta
 abbrev pub Fellow : Relation → System → ℕ → ℕ → Type 0
 Fellow rel A s t = Reachable A t × Bisimilar rel A s A t
 
--- `Leader` holds if the state l is the leader of the reachable state s, which is the state that represents the class of
--- s. If s is bisimilar to the first state, the first state is the leader. Otherwise, the leader is the least reachable
--- state that is bisimilar to s.
+-- The leader of a reachable state s is the state that represents the class of s. `Leader` holds if the state l is the
+-- leader of s. If s is bisimilar to the first state, the first state is the leader. Otherwise, the leader is the least
+-- reachable state that is bisimilar to s.
 abbrev pub Leader : Relation → System → ℕ → ℕ → Type 0
 Leader rel A s l =
     (Bisimilar rel A s A A.first × (l ≡ A.first)) ⊎ (¬ Bisimilar rel A s A A.first × Least (Fellow rel A s) l)
@@ -32,9 +32,10 @@ Leader rel A s l =
 abbrev pub IsLeader : Relation → System → ℕ → Type 0
 IsLeader rel A l = (s : ℕ) × Reachable A s × Leader rel A s l
 
--- `Number` holds if n is the class number of the reachable state s, which is the quotient state that represents s. The
--- leader of a state is the state that represents its class. If the leader of s is the first state, n is 0. Otherwise, n
--- is 1 plus the number of leaders that are smaller than the leader of s and differ from the first state.
+-- The class number of a reachable state s is the quotient state that represents s. `Number` holds if n is the class
+-- number of s. The leader of a state is the state that represents its class. If the leader of s is the first state, n
+-- is 0. Otherwise, n is 1 plus the number of leaders that are smaller than the leader of s and differ from the first
+-- state.
 abbrev pub Number : Relation → System → ℕ → ℕ → Type 0
 Number rel A s n =
     (l : ℕ) × Leader rel A s l
@@ -47,8 +48,9 @@ abbrev pub IsDropped : Relation → Transition → Type 0
 IsDropped Strong e = ⊥
 IsDropped Branching e = (e.label ≡ internal) × (e.source ≡ e.target)
 
--- `ShowsNothing` holds if the step from s to t is inert with respect to bisimilarity. For branching bisimilarity, this
--- means that the step is internal and that s and t are bisimilar. For strong bisimilarity, no step is inert.
+-- `ShowsNothing` holds if the step from s to t with the label a is inert with respect to bisimilarity. For branching
+-- bisimilarity, this means that a is the internal label and that s and t are bisimilar. For strong bisimilarity, no
+-- step is inert.
 abbrev pub ShowsNothing : Relation → System → ℕ → List ℕ → ℕ → Type 0
 ShowsNothing Strong A s a t = ⊥
 ShowsNothing Branching A s a t = (a ≡ internal) × Bisimilar Branching A s A t
@@ -60,10 +62,11 @@ abbrev pub IsQuotientStep : Relation → System → Transition → Type 0
 IsQuotientStep rel A e =
     (s t : ℕ) × Reachable A s × Step A s e.label t × Number rel A s e.source × Number rel A t e.target
 
--- `Quotient` holds if Q is the quotient of A. The number of states of Q is the number of leaders, which are the states
--- that represent the classes of bisimilar states. The first state of Q is 0. The list of transitions of Q contains,
--- exactly once, each transition that represents a step of A, except for the transitions that the quotient leaves out
--- (`IsDropped`).
+-- `Quotient` holds if Q is the quotient of A. There are three conditions. First, the number of states of Q is the
+-- number of leaders, which are the states that represent the classes of bisimilar states. Second, the first state of Q
+-- is 0. Third, the list of transitions of Q contains exactly once each transition that represents a step of A
+-- (`IsQuotientStep`), except for the transitions that the quotient leaves out (`IsDropped`). The list contains no other
+-- transitions.
 pub record Quotient (rel : Relation) (A Q : System) : Type 0 where
   pub states : HowMany (IsLeader rel A) Q.states
   pub first : Q.first ≡ 0

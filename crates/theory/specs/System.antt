@@ -35,7 +35,8 @@ pub record IsAmong (n : ℕ) (e : Transition) : Type 0 where
   pub target : e.target < n
 
 -- `IsSystem` holds if A is a well-formed system. Its states are the numbers less than the number of states. The first
--- state, and the source and the target of each transition, must be such numbers, and all labels must be valid.
+-- state, and the source and the target of each transition, must be less than the number of states. All labels must be
+-- valid.
 pub record IsSystem (A : System) : Type 0 where
   pub first : A.first < A.states
   pub transitions : All (IsAmong A.states) A.transitions
@@ -52,13 +53,15 @@ Internal A s t = Step A s internal t
 abbrev pub AnyStep : System → ℕ → ℕ → Type 0
 AnyStep A s t = (a : List ℕ) × Step A s a t
 
--- `Along` holds if the list has the states of a path of R from s to t, except for the first state s. R must relate each
--- state on the path to the next state on the path. For the empty list, s and t must be equal.
+-- A path of a relation R is a sequence of states such that R relates each state to the next state. `Along` holds if the
+-- list has the states of a path of R from s to t, except for the first state s. For the empty list, s and t must be
+-- equal.
 abbrev pub Along : (ℕ → ℕ → Type 0) → ℕ → List ℕ → ℕ → Type 0
 Along R s [] t = s ≡ t
 Along R s (u ∷ us) t = R s u × Along R u us t
 
--- `Leads` holds if some path of R leads from s to t. If s and t are equal, the empty path leads from s to t.
+-- A path of a relation R is a sequence of states such that R relates each state to the next state. `Leads` holds if
+-- some path of R leads from s to t. If s and t are equal, the empty path leads from s to t.
 abbrev pub Leads : (ℕ → ℕ → Type 0) → ℕ → ℕ → Type 0
 Leads R s t = (us : List ℕ) × Along R s us t
 

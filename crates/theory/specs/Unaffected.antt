@@ -11,19 +11,19 @@ use Rattle.theory.specs.Blocks.{Inert, Signature, EachTwo}
 abbrev pub Refines : System → (ℕ → ℕ) → (ℕ → ℕ) → Type 0
 Refines A old new = EachTwo A (λ s t. new s ≡ new t → old s ≡ old t)
 
--- `KeepsBlockIds` holds if the split from `old` to `new` has not changed any block ID that is less than `first_new`
--- after the split.
+-- Let `old` and `new` be the partitions before and after a split. `KeepsBlockIds` holds if each state whose block ID in
+-- `new` is less than `first_new` has the same block ID in `old`.
 abbrev pub KeepsBlockIds : System → (ℕ → ℕ) → (ℕ → ℕ) → ℕ → Type 0
 KeepsBlockIds A old new first_new = (s : ℕ) → s < A.states → new s < first_new → new s ≡ old s
 
--- `MentionsOnlyOld` holds if neither the block ID of the state s nor any block ID in its branching signature is new. A
--- block ID is new if it is at least `first_new`.
+-- A block ID is new if it is at least `first_new`. `MentionsOnlyOld` holds under two conditions. First, the block ID of
+-- the state s is not new. Second, no block ID in the branching signature of s is new.
 abbrev pub MentionsOnlyOld : System → (ℕ → ℕ) → ℕ → ℕ → Type 0
 MentionsOnlyOld A blocks first_new s = (blocks s < first_new)
     × ((a : List ℕ) (b : ℕ) → Signature Branching A blocks s a b → b < first_new)
 
--- `KeepsSignature` holds if the branching signature of the state s is the same with respect to the blocks `old` and the
--- blocks `new`.
+-- `KeepsSignature` holds if the branching signature of the state s with respect to the partition `old` equals its
+-- branching signature with respect to the partition `new`.
 abbrev pub KeepsSignature : System → (ℕ → ℕ) → (ℕ → ℕ) → ℕ → Type 0
 KeepsSignature A old new s = (a : List ℕ) (b : ℕ) → Signature Branching A old s a b ↔ Signature Branching A new s a b
 
@@ -35,10 +35,11 @@ HasEmptySignature A blocks s = (a : List ℕ) (b : ℕ) → ¬ Signature Branchi
 abbrev pub IsOnlyMember : System → (ℕ → ℕ) → ℕ → Type 0
 IsOnlyMember A blocks s = (t : ℕ) → t < A.states → blocks t ≡ blocks s → t ≡ s
 
--- `AreEnoughToProcess` holds if the active states, which are the states that a round processes, include all states
--- whose signatures may have changed. These are three kinds of states: the states of new blocks (blocks whose IDs are at
--- least `first_new`), the sources of steps to new blocks, and the sources of inert steps that lead to an active state
--- of an old block. A state of the first or of the second kind need not be active if no other state is in its block.
+-- The active states are the states that a round processes. `AreEnoughToProcess` holds if all states whose signatures
+-- may have changed are active. There are three kinds of such states. The first kind are the states of new blocks, which
+-- are blocks whose IDs are at least `first_new`. The second kind are the sources of steps to new blocks. The third kind
+-- are the sources of inert steps that lead to an active state of an old block. A state of the first or of the second
+-- kind need not be active if no other state is in its block.
 pub record AreEnoughToProcess (A : System) (blocks : ℕ → ℕ) (first_new : ℕ) (active : ℕ → Type 0) : Type 0 where
   pub new : (t : ℕ) → t < A.states → first_new ≤ blocks t → active t ⊎ IsOnlyMember A blocks t
   pub sources : (s : ℕ) (a : List ℕ) (t : ℕ) → Step A s a t → first_new ≤ blocks t → active s ⊎ IsOnlyMember A blocks s

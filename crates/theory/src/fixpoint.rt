@@ -13,8 +13,9 @@ pub fn split_exists()
         × Split rel A old new }
 {}
 
-/// When a system is refined, there is a first split that changes nothing. The system and the relation determine the
-/// number of splits up to and including this split, and this number is at most the number of states.
+/// When a system is refined, there is a first split that changes nothing. Let k be the number of splits up to and
+/// including this split (`Turns`). Then k is at most the number of states. For a given system and relation, k is
+/// unique.
 pub fn turns_exist()
     ensures found { (rel : Relation) (A : System) → IsSystem A → (k : ℕ) × Turns rel A k
         × (k ≤ A.states) }

@@ -57,8 +57,10 @@ pub fn inert_steps_pass_signatures_back()
         SameSignature Branching A blocks s t }
 {}
 
-/// An inert step is an internal step between bisimilar states. Let s and t be bisimilar states, and let s have no inert
-/// steps. Suppose that t has a step that is not inert. Then s matches this step by a single step.
+/// For branching bisimilarity, an inert step is an internal step between bisimilar states. For strong bisimilarity, no
+/// step is inert. Let s and t be bisimilar states, and let s have no inert steps. Suppose that a step of t with the
+/// label a leads to u, and that this step is not inert. Then some step of s with the label a leads to a state that is
+/// bisimilar to u.
 pub fn states_without_inert_steps_show_all()
     ensures { (rel : Relation) (A : System) (s t : ℕ) (a : List ℕ) (u : ℕ) → IsSystem A →
         Bisimilar rel A s A t →

@@ -24,8 +24,9 @@ pub fn splitting_keeps()
         IsSystem A → Kept rel A old → Split rel A old new → Kept rel A new }
 {}
 
-/// Suppose that the blocks are closed under silent paths (`Kept`), and that any two states which a bisimulation relates
-/// share a block. Then any two such states also share a block after the blocks are split.
+/// Let R be the relation that a list of pairs defines, and suppose that R is a bisimulation. Suppose also that the
+/// blocks are closed under silent paths (`Kept`), and that any two states that R relates share a block before a split.
+/// Then any two states that R relates share a block after the split.
 pub fn bisimulations_survive()
     ensures { (rel : Relation) (A : System) (old new : ℕ → ℕ) (pairs : List (ℕ × ℕ)) →
         IsSystem A → Kept rel A old → Split rel A old new →

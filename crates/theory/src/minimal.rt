@@ -21,7 +21,7 @@ pub fn steps_keep_reachable()
         (s : ℕ) → Reachable A s → IsTrue (has s) }
 {}
 
-/// If two leaders (states that represent their classes) are bisimilar, they are equal.
+/// The leader of a class is the state that represents this class. If two leaders are bisimilar, they are equal.
 pub fn leaders_differ()
     ensures { (rel : Relation) (A : System) (l m : ℕ) → IsSystem A → IsLeader rel A l →
         IsLeader rel A m →
@@ -48,8 +48,9 @@ pub fn leaders_are_counted()
         HowMany (IsLeader rel A) (1 + c) }
 {}
 
-/// Each reachable state has exactly one leader, which is the state that represents its class. Each reachable state has
-/// exactly one class number, which is the quotient state that represents it.
+/// The leader of a reachable state is the state that represents its class. Each reachable state has exactly one leader.
+/// The class number of a reachable state is the quotient state that represents it. Each reachable state has exactly one
+/// class number.
 pub fn each_state_has_a_number()
     ensures leader { (rel : Relation) (A : System) (s : ℕ) → IsSystem A → Reachable A s →
         (l : ℕ) × Leader rel A s l }
@@ -61,8 +62,8 @@ pub fn each_state_has_a_number()
         Number rel A s m → Number rel A s n → m ≡ n }
 {}
 
-/// Two reachable states have the same class number, which is the quotient state that represents them, if and only if
-/// they are bisimilar.
+/// The class number of a reachable state is the quotient state that represents it. Two reachable states have the same
+/// class number if and only if they are bisimilar.
 pub fn numbers_are_classes()
     ensures { (rel : Relation) (A : System) (s t m n : ℕ) → IsSystem A →
         Reachable A s → Reachable A t →

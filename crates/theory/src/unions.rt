@@ -14,9 +14,10 @@ pub fn the_union_is_a_system()
     ensures { (A B : System) → IsSystem A → IsSystem B → IsSystem (union_of A B) }
 {}
 
-/// Two states of the systems A and B are bisimilar if and only if the states that represent them in the union are
-/// bisimilar. The two states may also belong to the same system. A state t of B is represented by the state `A.states +
-/// t`. Each state is bisimilar to the state that represents it.
+/// In the union of A and B, a state s of A is represented by the state s, and a state t of B is represented by the
+/// state `A.states + t`. Each state is bisimilar to the state that represents it. Two states are bisimilar if and only
+/// if the states that represent them are bisimilar. The two states may belong to different systems or to the same
+/// system.
 pub fn the_union_keeps_bisimilarity()
     ensures across { (rel : Relation) (A B : System) (s t : ℕ) → IsSystem A → IsSystem B →
         s < A.states → t < B.states →
@@ -56,8 +57,8 @@ pub fn the_union_decides_equivalence()
     ensures same { (A B : System) → A ≡ B → SameSteps A B }
 {}
 
-/// Reordering the transitions of two systems changes neither their equivalence nor the number of splits for their
-/// union.
+/// Reordering the transitions of two systems does not change whether the systems are equivalent. It does not change the
+/// number of splits that refinement makes for their union, either.
 pub fn the_order_does_not_matter_side_by_side()
     ensures steps { (A B C D : System) → SameSteps A B → SameSteps C D →
         SameSteps (union_of A C) (union_of B D) }

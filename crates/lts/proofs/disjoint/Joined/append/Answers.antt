@@ -24,8 +24,8 @@ label_id-requires-clause-room g c =
     let taken = length-take c.loop-k.k places in
     omega (arith, size, taken, c.loop-k.invariant.joined.few, c.requires.fits, c.loop-k-test.true, c.edges.ensures)
 
--- The loop appends a triple for the transition at the place k (the index k in the list of all transitions). The
--- variable `state` is the source of this transition, and the new triple represents this transition.
+-- The loop appends a triple for the transition at the place k, which is the index k in the list of all transitions. The
+-- variable `state` is the source of this transition. The new triple represents this transition.
 pub loop-k-preserved : goal.loop-k-preserved
 loop-k-preserved g c =
     let l = c.args.part.now.l.now in
