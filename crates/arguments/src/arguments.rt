@@ -56,7 +56,7 @@ const ABOUT_MIN: &str = "Writes the equivalent system with the fewest states";
 /// The description of `cmp` in the help text.
 const ABOUT_CMP: &str = "Says whether two systems are equivalent: TRUE or FALSE";
 
-/// A job, which is a subcommand with its options. The command line asks the program to do this job.
+/// A job is a subcommand with its options. The command line asks the program to do a job.
 #[derive(Debug, Drop, PartialEq, Eq)]
 pub enum Job {
     /// Minimise the system in `file`, or in standard input if there is no file.

@@ -89,7 +89,8 @@ ends_minimised took ran =
 
 module _ {Out : Type 0} (asked : Request) (law : NotBoth asked.bounds) (output : Used Out) where
   -- `EndsRun` states how a run (a minimisation or a comparison) ended. Suppose that no system could be read from an
-  -- input, and that the error `fault` is the reason. Then `EndsRun` holds with the exit status for `fault`.
+  -- input, that the error `fault` is the reason, and that nothing was written. Then `EndsRun` holds with the exit
+  -- status for `fault`.
   ends_unread : {contents : Contents} {Sound Lost : Type 0} (given : List ℕ) (revealed rest : Option (List ℕ))
       (failures : ℕ) (fault : Fault) →
       Consumes revealed rest given → output.new ≡ output.old → (failures ≡ 0 → Sound) → (failures ≡ 1 → Lost) →

@@ -52,7 +52,7 @@ impl From<Memory> for CmpFault {
 /// `FALSE` to the sink `w` (the object to which the output is written). Finally it calls `w.finish` once. The result of
 /// `run_cmp` is the verdict, which is true if the systems are equivalent. The meter `m` counts rounds and visits (reads
 /// of transitions), and must not have counted anything before. If both systems together have n states and k
-/// transitions, `run_cmp` makes at most n rounds and exactly (rounds + 1) * k visits.
+/// transitions, a comparison that succeeds makes at most n rounds and exactly (rounds + 1) * k visits.
 ///
 /// # Errors
 ///

@@ -29,8 +29,8 @@ pub trait Opener {
     // these files.
     ghost unclosed: { Self → ℕ };
 
-    // The contents of the file with the given name. The value is `None` if the contract of the opener does not state
-    // the contents.
+    // The contents of the file that has the given name. The value is `None` if the contract of the opener does not
+    // state the contents.
     ghost holds: { Self → Name → Option (List ℕ) };
 
     /// Opens the file with the name `name`.

@@ -1,4 +1,4 @@
-//! Reports errors: writes the error message, and returns the exit status, for each error.
+//! This module reports errors. For each error, it writes an error message and returns the exit status.
 ghost use Rattle.std.specs.Prelude.{◌≡◌, ◌≤◌, IsTrue, OnOk, OnErr};
 ghost use Rattle.std.specs.Io.KnownBytes.{Appends};
 ghost use Rattle.autfmt.specs.Stream.{AppendsPrefix, CountsFailure};

@@ -37,8 +37,8 @@ hidden_label-shown H a none = grind (arith, contains_from, cases_Bool)
 hidden_label-internal : (H : List (List ℕ)) → hidden_label H internal ≡ internal
 hidden_label-internal H = grind arith
 
--- If a label has been hidden with a hide list (a list of the labels to hide), then hiding it again with the same list
--- changes nothing.
+-- Suppose that the labels of a hide list (a list of the labels to hide) are hidden twice in succession. Then the second
+-- time changes no label.
 pub hidden_label-again : (H : List (List ℕ)) (a : List ℕ) → hidden_label H (hidden_label H a) ≡ hidden_label H a
 hidden_label-again H a = let i = hidden_label-internal H in grind (arith, i)
 

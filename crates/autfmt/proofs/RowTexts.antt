@@ -41,9 +41,9 @@ module _ {g : Grouped} {words : Words} (lts : IsLts g) (are : AreWords g.labels 
       same up in
       (system_from g.first g.states (texts words.entries.items) order, written, cc)
 
-  -- Suppose that the header and the rows of the first states have been produced, and that writing the buffer to the
-  -- sink (the object to which the output is written) fails. A row has the outgoing transitions of one state. Then the
-  -- bytes that were written to the sink are a prefix of the whole output.
+  -- A row has the outgoing transitions of one state. Suppose that the header and the rows of all states less than s
+  -- have been produced, and that writing the buffer to the sink (the object to which the output is written) fails. Then
+  -- the bytes that were written to the sink are a prefix of the whole output.
   pub rows_begun : {old mid : Option (List ℕ)} {waiting : List ℕ} {s : ℕ} (new : Option (List ℕ)) →
       RowsWait g words old mid waiting s → AppendsPrefix mid new waiting → GainsPrefix (system_of g) old new
   rows_begun {old} {s = s} new rows put =
