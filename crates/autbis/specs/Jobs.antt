@@ -19,8 +19,9 @@ abbrev pub relation_of : Job → Relation
 relation_of (Min relation stats hide file) = relation
 relation_of (Cmp relation hide first second) = relation
 
--- `shows_counts job` is true if the job (the task that the command line asks for) writes the line of `--stats`. Only a
--- minimisation with the option `--stats` writes this line.
+-- `shows_counts job` is true if the job (the task that the command line asks for) writes the line of `--stats`, which
+-- has the size of the system and the numbers of rounds and visits (reads of transitions). Only a minimisation with the
+-- option `--stats` writes this line.
 abbrev pub shows_counts : Job → Bool
 shows_counts (Min relation stats hide file) = stats
 shows_counts (Cmp relation hide first second) = false

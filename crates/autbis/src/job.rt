@@ -1,4 +1,5 @@
-//! Runs the program from its command line to its exit status, with any implementation of files and streams.
+//! This module runs the whole program, from its command line to its exit status. The caller supplies the files and the
+//! streams.
 ghost use Rattle.std.specs.Prelude.{◌≡◌, ◌⊎◌, ◌≤◌, IfOk, IfErr, IsTrue};
 ghost use Rattle.autbis.specs.Ends.{EndsRun};
 ghost use Rattle.autbis.specs.Files.{files_used};

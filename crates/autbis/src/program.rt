@@ -1,4 +1,5 @@
-//! Minimises or compares inputs, reports errors, and returns the exit status.
+//! This module has the two subcommands of the program. Each of them minimises or compares its inputs, writes error
+//! messages, and returns the exit status.
 ghost use Rattle.std.specs.Prelude.{◌≡◌, ◌⊎◌, ◌≤◌, IfSome, IsTrue, false};
 ghost use Rattle.autbis.specs.declared.compare.Side.TheVariants.{First, Second};
 ghost use Rattle.autbis.specs.Ends.{EndsRun};

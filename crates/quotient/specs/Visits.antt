@@ -1,5 +1,5 @@
--- Public. Defines the bounds on the numbers of rounds and visits (counted reads of transitions) that the functions of
--- this crate make. A meter counts rounds and visits.
+-- The definitions in this file bound the numbers of rounds and visits (counted reads of transitions) that the functions
+-- of this crate make. A meter counts rounds and visits. The public contracts of this crate cite these definitions.
 use Rattle.std.specs.Prelude.{ℕ, ◌+◌, ◌*◌, ◌≤◌}
 use Rattle.lts.specs.Meter.{Counts}
 
