@@ -1,5 +1,5 @@
-//! Code that the tests of several crates share: worked examples with names, a sink (what an output is written to) that
-//! counts the calls of its method `finish`, and a check that reports the name of a failing example.
+//! Code that the tests of several crates share: worked examples with names, a sink (the object to which the output is
+//! written) that counts the calls of its method `finish`, and a check that reports the name of a failing example.
 #![tactic(auto)]
 
 mod counted;

@@ -66,9 +66,9 @@ fn is_said(same: bool, left: Left, sink: &VecSink, meter: &Counter) -> bool {
 
 /// Returns whether a failed comparison has satisfied its contract. If memory runs out while an input is read, the
 /// comparison must not have written any output, and the meter must not have counted any rounds or visits (counted reads
-/// of transitions). The second input must not be read before the end of the first input. If the sink (what the output
-/// is written to) fails to allocate memory, a prefix of the line with the result may be written. After every other
-/// failure, nothing may be written.
+/// of transitions). The second input must not be read before the end of the first input. If the sink (the object to
+/// which the output is written) fails to allocate memory, a prefix of the line with the result may be written. After
+/// every other failure, nothing may be written.
 fn is_left(refused: CmpFault, same: bool, left: Left, sink: &VecSink, meter: &Counter) -> bool {
     let CmpFault { side, fault } = refused;
     if fault == Fault::Device {

@@ -47,7 +47,8 @@ impl Ending {
     }
 }
 
-/// Returns true if a part of the input has not been read, and the source (what the input is read from) has not failed.
+/// Returns true if a part of the input has not been read, and the source (the object from which the input is read) has
+/// not failed.
 pub(crate) fn has_more(source: &mut SliceSource) -> bool {
     source.failures() == 0 && source.take(&mut [0u8; 1]).unwrap_or(0) == 1
 }

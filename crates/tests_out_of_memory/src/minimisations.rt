@@ -59,9 +59,9 @@ fn is_counted(example: &Example, has_more: bool, meter: &Counter) -> bool {
 }
 
 /// Returns whether a minimisation ended correctly. This is the case if the whole output was written (`Wanted`), or if
-/// an allocation failed and nothing was written (`Refused`). It is also the case if the sink (what the output is
-/// written to) failed to allocate memory, and a prefix of the output was written (`Refused`). In all other cases, the
-/// result is `Wrong`.
+/// an allocation failed and nothing was written (`Refused`). It is also the case if the sink (the object to which the
+/// output is written) failed to allocate memory, and a prefix of the output was written (`Refused`). In all other
+/// cases, the result is `Wrong`.
 fn of_answer(answer: Result<Counts, Fault>, has_more: bool, sink: &VecSink, out: &[u8]) -> Ending {
     let (bytes, failures) = (sink.bytes(), sink.failures());
     match answer {

@@ -1,5 +1,6 @@
 //! Runs two examples. In the first example, an input has an error in line 1, which is found without allocating memory.
-//! In the second example, a sink (what an output is written to) stores its bytes in memory, and allocates memory twice.
+//! In the second example, a sink (the object to which the output is written) stores its bytes in memory, and allocates
+//! memory twice.
 use crate::ending::Ending;
 use autfmt::{Fault, Limits, Sink, SliceSource, VecSink, put_all, read};
 use lts::{Counter, Lts};
@@ -25,9 +26,9 @@ fn is_fault(alloc: Global, text: &[u8], fault: Fault) -> bool {
     read.err() == Some(fault)
 }
 
-/// Writes to a sink (what an output is written to) that stores its bytes in memory. Returns `Wanted` if the sink has
-/// stored all bytes. Returns `Refused` if an allocation failed, and the sink still has exactly the bytes of the earlier
-/// writes. In all other cases, the result is `Wrong`.
+/// Writes to a sink (the object to which the output is written) that stores its bytes in memory. Returns `Wanted` if
+/// the sink has stored all bytes. Returns `Refused` if an allocation failed, and the sink still has exactly the bytes
+/// of the earlier writes. In all other cases, the result is `Wrong`.
 fn of_sink(alloc: Global) -> Ending {
     let mut sink = VecSink::new(alloc, None);
     let Ok(()) = put_all(&mut sink, STEP) else {

@@ -170,8 +170,8 @@ fn verdicts(rt: HostRuntime) -> Result<(), Fail> {
     Ok(())
 }
 
-/// Hides the labels of the hide list (the labels to hide) in a system, minimises the result, and returns the sink (what
-/// the output is written to) that has the quotient.
+/// Hides the labels of the hide list (the labels to hide) in a system, minimises the result, and returns the sink (the
+/// object to which the output is written) that has the quotient.
 fn quotient(alloc: Global, text: &[u8], list: &[u8], rel: Relation) -> Result<VecSink, Fault> {
     let hidden = read_hidden(alloc, &mut SliceSource::new(list, None))?;
     let (answer, sink, _) = run_hiding(alloc, text, &hidden, rel);
@@ -340,8 +340,8 @@ fn leaves_second(alloc: Global) -> bool {
     answer.is_err() && starts_with(&mut other, IN_ORDER)
 }
 
-/// Reads bytes from the source (what an input is read from). Returns true if the source has not failed, and these bytes
-/// are a prefix of the text.
+/// Reads bytes from the source (the object from which the input is read). Returns true if the source has not failed,
+/// and these bytes are a prefix of the text.
 fn starts_with(source: &mut SliceSource, text: &[u8]) -> bool {
     let mut piece = [0u8; 8];
     source.failures() == 0 && source.take(&mut piece).unwrap_or(0) == 8 && text.starts_with(&piece)
@@ -352,8 +352,8 @@ fn first_side_faulty(rt: HostRuntime) -> Result<(), Fail> {
     check("first-side-faulty", leaves_second(rt.alloc()))
 }
 
-/// Returns true if the result of the comparison is `same`, and the comparison calls `finish` of its sink (what the
-/// output is written to) exactly once.
+/// Returns true if the result of the comparison is `same`, and the comparison calls `finish` of its sink (the object to
+/// which the output is written) exactly once.
 fn finishes_once(alloc: Global, pair: &Pair, same: bool) -> bool {
     let mut sink = Counted { finished: 0 };
     let answer = run_cmp(

@@ -1,5 +1,6 @@
 //! Tests of minimisations modulo strong bisimilarity that end with an error. Either the input has an error, or the
-//! source (what the input is read from) fails, or the sink (what the output is written to) fails.
+//! source (the object from which the input is read) fails, or the sink (the object to which the output is written)
+//! fails.
 use super::running::{Flow, check_ends, check_fault, check_written};
 use autfmt::Fault;
 use quotient::Relation;
@@ -63,8 +64,9 @@ fn cut_texts(rt: HostRuntime) -> Result<(), Fail> {
     check_written(rt.alloc(), "cut", &TWO[..33], Relation::Strong, STEP)
 }
 
-/// Fails unless the minimisation ends with the error `fault` and writes `out`. Either the source (what the input is
-/// read from) fails at the index `place`, or the sink (what the output is written to) fails at the index `count`.
+/// Fails unless the minimisation ends with the error `fault` and writes `out`. Either the source (the object from which
+/// the input is read) fails at the index `place`, or the sink (the object to which the output is written) fails at the
+/// index `count`.
 fn check_failing(
     alloc: Global,
     text: &[u8],

@@ -66,7 +66,7 @@ fn other_messages(rt: HostRuntime) -> Result<(), Fail> {
 }
 
 /// Runs `min_program` modulo strong bisimilarity and with `--stats`. Returns the exit status, the output, and the
-/// message. The source (what the input is read from) fails at the index `place`.
+/// message. The source (the object from which the input is read) fails at the index `place`.
 fn ran(
     alloc: Global,
     text: &[u8],
@@ -91,8 +91,8 @@ fn ran(
     (status, sink, said)
 }
 
-/// An example: an input, the index at which its source (what the input is read from) fails, the exit status, and the
-/// message.
+/// An example: an input, the index at which its source (the object from which the input is read) fails, the exit
+/// status, and the message.
 type Faulty = (&'static [u8], Option<usize>, u8, &'static [u8]);
 
 const FAULTY: [Faulty; 3] = [

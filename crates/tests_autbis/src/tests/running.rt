@@ -1,6 +1,6 @@
 //! Functions that run the examples of the other files. They minimise inputs, and check that the minimisation ends with
-//! the expected error or output. Sources (what an input is read from) and sinks (what an output is written to) may
-//! fail.
+//! the expected error or output. Sources (the object from which the input is read) and sinks (the object to which the
+//! output is written) may fail.
 use autbis::{Counts, run_min};
 use autfmt::{Fault, Hidden, Limits, SliceSource, VecSink, read_hidden};
 use lts::{Counter, Meter};
@@ -30,8 +30,8 @@ pub(crate) struct Flow {
     pub(crate) piece: usize,
 }
 
-/// Returns a `Flow` whose source (what the input is read from) and sink (what the output is written to) never fail, and
-/// move at most `piece` bytes in one call.
+/// Returns a `Flow` whose source (the object from which the input is read) and sink (the object to which the output is
+/// written) never fail, and move at most `piece` bytes in one call.
 fn sound(relation: Relation, piece: usize) -> Flow {
     Flow {
         relation,
@@ -41,8 +41,8 @@ fn sound(relation: Relation, piece: usize) -> Flow {
     }
 }
 
-/// Hides the labels in `hidden`, and minimises the input. The argument `at` describes the relation, the source (what
-/// the input is read from) and the sink (what the output is written to).
+/// Hides the labels in `hidden`, and minimises the input. The argument `at` describes the relation, the source (the
+/// object from which the input is read) and the sink (the object to which the output is written).
 fn run(alloc: Global, text: &[u8], hidden: &Hidden, at: Flow) -> Ran {
     let mut source = SliceSource::new(text, at.source).pieces(at.piece.max(1));
     let mut sink = VecSink::new(alloc, at.sink).pieces(at.piece.max(1));

@@ -17,8 +17,8 @@ pub(crate) type Written = (&'static str, &'static [u8], &'static [u8], &'static 
 /// The sizes of the chunks in which each input is read.
 pub(crate) const SIZES: [usize; 7] = [1, 2, 3, 7, 4095, 4096, 4097];
 
-/// Returns the system that the input describes. The input is read in chunks of `k` bytes from a source (what an input
-/// is read from) that fails at the index `place`.
+/// Returns the system that the input describes. The input is read in chunks of `k` bytes from a source (the object from
+/// which the input is read) that fails at the index `place`.
 fn system_of(
     alloc: Global,
     text: &[u8],
@@ -57,7 +57,7 @@ pub(crate) fn check_faults(alloc: Global, lim: &Limits, table: &[Faulty]) -> Res
 }
 
 /// Returns the labels of the hide list (the list of labels to hide). The list is read in chunks of `k` bytes from a
-/// source (what the list is read from) that fails at the index `place`.
+/// source (the object from which the hide list is read) that fails at the index `place`.
 pub(crate) fn hidden_by(
     alloc: Global,
     list: &[u8],
@@ -81,9 +81,9 @@ pub(crate) fn hiding(
     read_hiding(alloc, &mut source, &Limits::file(), &hidden)
 }
 
-/// Writes the system `s` to the sink (what an output is written to). Returns the result of `write`, and the number of
-/// visits (counted reads of transitions) that `write` made. If `write` cannot be called, the result is an error that
-/// `write` never returns.
+/// Writes the system `s` to the sink (the object to which the output is written). Returns the result of `write`, and
+/// the number of visits (counted reads of transitions) that `write` made. If `write` cannot be called, the result is an
+/// error that `write` never returns.
 pub(crate) fn answer<W: Sink>(
     alloc: Global,
     s: &Lts<Counter>,
@@ -97,8 +97,8 @@ pub(crate) fn answer<W: Sink>(
     (answer, m.visits())
 }
 
-/// Writes the system to a sink (what an output is written to) that accepts at most `k` bytes in one call. Returns
-/// whether writing succeeds and the output is `wanted`.
+/// Writes the system to a sink (the object to which the output is written) that accepts at most `k` bytes in one call.
+/// Returns whether writing succeeds and the output is `wanted`.
 fn is_written(alloc: Global, system: &Lts<Counter>, k: usize, wanted: &[u8]) -> bool {
     let mut sink = VecSink::new(alloc, None).pieces(k.max(1));
     let (answer, _) = answer(alloc, system, &mut sink);

@@ -35,8 +35,8 @@ fn full_line_buffer(_rt: HostRuntime) -> Result<(), Fail> {
     )
 }
 
-/// Appends to `all` the bytes that the source `r` (what an input is read from) returns, until the source ends or fails.
-/// Each call takes at most five bytes from it.
+/// Appends to `all` the bytes that the source `r` (the object from which the input is read) returns, until the source
+/// ends or fails. Each call takes at most five bytes from it.
 fn drain<R: Source>(r: &mut R, all: &mut Vec<u8>) -> Result<(), AllocError> {
     let mut piece = [0u8; 5];
     for _ in 0..1000 {
@@ -49,8 +49,8 @@ fn drain<R: Source>(r: &mut R, all: &mut Vec<u8>) -> Result<(), AllocError> {
     Ok(())
 }
 
-/// Reads from the source `r` (what an input is read from) until it ends or fails. Returns true if the source returned
-/// exactly the bytes `wanted`, and it then reports `failures` failures.
+/// Reads from the source `r` (the object from which the input is read) until it ends or fails. Returns true if the
+/// source returned exactly the bytes `wanted`, and it then reports `failures` failures.
 fn is_drained<R: Source>(
     alloc: Global,
     r: &mut R,
@@ -62,8 +62,8 @@ fn is_drained<R: Source>(
     Ok(all.as_slice() == wanted && r.failures() == failures)
 }
 
-/// Reads the text `TEXT` from a source (what an input is read from) that fails at the index `place`. Returns true if
-/// the source returned exactly the bytes `wanted`, and it then reports `failures` failures.
+/// Reads the text `TEXT` from a source (the object from which the input is read) that fails at the index `place`.
+/// Returns true if the source returned exactly the bytes `wanted`, and it then reports `failures` failures.
 fn gives(
     alloc: Global,
     place: Option<usize>,
@@ -98,8 +98,8 @@ fn a_slice_gives_all_its_bytes(rt: HostRuntime) -> Result<(), Fail> {
     Ok(())
 }
 
-/// Returns the number of bytes that the first call of `take` returns. The source (what an input is read from) returns
-/// at most `most` bytes in one call.
+/// Returns the number of bytes that the first call of `take` returns. The source (the object from which the input is
+/// read) returns at most `most` bytes in one call.
 fn first_taken(most: usize) -> usize {
     let mut source = SliceSource::new(TEXT, None).pieces(most.max(1));
     source.take(&mut [0u8; 64]).unwrap_or(0)
@@ -113,16 +113,16 @@ fn a_slice_gives_pieces(_rt: HostRuntime) -> Result<(), Fail> {
     Ok(())
 }
 
-/// Writes the whole text to the sink (what an output is written to). Returns true if the sink accepts the text without
-/// a failure, and `finish` then succeeds.
+/// Writes the whole text to the sink (the object to which the output is written). Returns true if the sink accepts the
+/// text without a failure, and `finish` then succeeds.
 fn fills<W: Sink>(sink: &mut W) -> bool
     requires { W.failures sink.old ≡ 0 }
 {
     put_all(sink, TEXT).is_ok() && sink.failures() == 0 && sink.finish().is_ok()
 }
 
-/// Writes the text to a sink (what an output is written to) that fails after `count` bytes. Returns true if the sink
-/// accepts exactly the bytes `wanted`, and it reports `failures` failures after `finish`.
+/// Writes the text to a sink (the object to which the output is written) that fails after `count` bytes. Returns true
+/// if the sink accepts exactly the bytes `wanted`, and it reports `failures` failures after `finish`.
 fn takes(alloc: Global, count: Option<usize>, most: usize, wanted: &[u8], failures: u32) -> bool {
     let mut sink = VecSink::new(alloc, count).pieces(most.max(1));
     let done = fills(&mut sink);
@@ -158,8 +158,8 @@ fn a_reader_gives_its_bytes(rt: HostRuntime) -> Result<(), Fail> {
     check("a reader", is_drained(rt.alloc(), &mut reader, TEXT, 0)?)
 }
 
-/// Writes `bytes` to a sink (what an output is written to) that passes them on to `writer`. Returns whether all bytes
-/// were written, and the number of failures of the sink.
+/// Writes `bytes` to a sink (the object to which the output is written) that passes them on to `writer`. Returns
+/// whether all bytes were written, and the number of failures of the sink.
 fn put<W: Write>(writer: &mut W, bytes: &[u8]) -> (bool, u32) {
     let mut sink = ToWrite::new(writer);
     let put = put_all(&mut sink, bytes);
@@ -249,8 +249,8 @@ fn with_room(fails: bool) -> Tight {
     }
 }
 
-/// Fails unless the sink (what an output is written to) writes five bytes, then fails at the next byte, and never
-/// flushes the writer.
+/// Fails unless the sink (the object to which the output is written) writes five bytes, then fails at the next byte,
+/// and never flushes the writer.
 fn check_tight(fails: bool) -> Result<(), Fail> {
     let mut tight = with_room(fails);
     check("five bytes", put(&mut tight, b"abcde") == (true, 0))?;
@@ -268,8 +268,8 @@ fn a_write_error_is_a_failure(_rt: HostRuntime) -> Result<(), Fail> {
     check_tight(true)
 }
 
-/// Calls `finish` of a sink (what an output is written to). Returns whether the call succeeds, the number of failures
-/// of the sink, and the number of flushes of the writer.
+/// Calls `finish` of a sink (the object to which the output is written). Returns whether the call succeeds, the number
+/// of failures of the sink, and the number of flushes of the writer.
 fn finished(fails: bool) -> (bool, u32, u32) {
     let mut tight = with_room(fails);
     let mut sink = ToWrite::new(&mut tight);

@@ -7,8 +7,8 @@ use std::alloc::Global;
 use std::test::Fail;
 use test_support::{Counted, STEP, check};
 
-/// Writes the system to a sink (what an output is written to) that fails after `count` bytes. Returns true if the sink
-/// gets the first `count` bytes of the output, and `write` returns the error `Device`.
+/// Writes the system to a sink (the object to which the output is written) that fails after `count` bytes. Returns true
+/// if the sink gets the first `count` bytes of the output, and `write` returns the error `Device`.
 fn fails_at(alloc: Global, s: &Lts<Counter>, count: usize, most: usize) -> bool {
     let mut sink = VecSink::new(alloc, Some(count)).pieces(most.max(1));
     let (answer, visits) = answer(alloc, s, &mut sink);
@@ -18,7 +18,8 @@ fn fails_at(alloc: Global, s: &Lts<Counter>, count: usize, most: usize) -> bool 
         && sink.bytes() == &STEP[..count.min(24)]
 }
 
-/// Calls `fails_at` for every number of bytes after which the sink (what an output is written to) may fail.
+/// Calls `fails_at` for every number of bytes after which the sink (the object to which the output is written) may
+/// fail.
 fn check_ends(alloc: Global, s: &Lts<Counter>, most: usize) -> Result<(), Fail> {
     for count in 0..25 {
         check("failing-ends", fails_at(alloc, s, count, most))?;
@@ -26,7 +27,8 @@ fn check_ends(alloc: Global, s: &Lts<Counter>, most: usize) -> Result<(), Fail> 
     Ok(())
 }
 
-/// Calls `check_ends` for sinks (what an output is written to) that accept different numbers of bytes in one call.
+/// Calls `check_ends` for sinks (the object to which the output is written) that accept different numbers of bytes in
+/// one call.
 fn check_all_ends(alloc: Global, s: &Lts<Counter>) -> Result<(), Fail> {
     for most in [1, 5, 100] {
         check_ends(alloc, s, most)?;
@@ -40,8 +42,8 @@ fn failing_ends(rt: HostRuntime) -> Result<(), Fail> {
     check_all_ends(rt.alloc(), &s)
 }
 
-/// Writes the system to a sink (what an output is written to). Returns true if `write` makes exactly one visit (counted
-/// read of a transition), and calls the function `finish` of the sink exactly once.
+/// Writes the system to a sink (the object to which the output is written). Returns true if `write` makes exactly one
+/// visit (counted read of a transition), and calls the function `finish` of the sink exactly once.
 fn finishes_once(alloc: Global, s: &Lts<Counter>) -> bool {
     let mut sink = Counted { finished: 0 };
     let (answer, visits) = answer(alloc, s, &mut sink);
