@@ -28,8 +28,8 @@ pub record FilesUsed (F : Type 0) : Type 0 where
   pub lost : F → ℕ
 
 -- `files_used` makes a `FilesUsed` record, which describes the effect of a call on an opener (an object that opens
--- files by their names). The arguments are the four functions of the opener that the record needs, the opener before
--- the call, and the opener after the call.
+-- files by their names). The first four arguments are functions of the opener, from which the record is made. The last
+-- two arguments are the opener before the call and the opener after the call.
 abbrev pub files_used : {F : Type 0} → (F → Name → Option (List ℕ)) → (F → Option (List Name)) →
     (failures lost : F → ℕ) → (old new : F) → FilesUsed F
 files_used holds opened failures lost old new =

@@ -1,5 +1,5 @@
--- Lemmas about the triples that a reader stores with a label table, and about the transitions that these triples
--- denote.
+-- A reader stores triples whose labels are IDs in a label table. These lemmas are about the triples, and about the
+-- transitions that the triples denote.
 use Rattle.std.proofs.Common.{◌≡◌, ℕ, ◌+◌, ◌<◌, ◌≤◌, Contains, List, [], ◌∷◌, ◌++◌, length, map, get_or, refl, sym, ap}
 use Rattle.std.proofs.Common.{ap₂, inl, inr, arith, All}
 use Rattle.std.proofs.lemmas.List.{length_push, length-map, map_push, get_or-map}

@@ -124,9 +124,9 @@ module _ (bounds : Bounds) (given more : List ℕ) where
       let (tail, others', b') = goes_on_well m n es line others b in
       behind m n es ((line ++ tail) ∷ others') b' (inr (full, e))
 
--- Suppose that the bytes that have been read so far end with a line feed. Suppose also that they have a first error if
--- no bytes follow, and that this error is not `MissingEdges` (transitions are missing). Then this error is the first
--- error of the whole input for all bytes that may follow.
+-- Suppose that the bytes that have been read so far end with a line feed. Suppose also that an input that consists of
+-- exactly these bytes has an error, and that its first error is not `MissingEdges` (transitions are missing). Then this
+-- error is the first error of the whole input for all bytes that may follow.
 pub ended_known : (bounds : Bounds) (given : List ℕ) (ended : List (List ℕ)) (fault : Fault) → Cuts given ended [] →
     FirstFault bounds given fault →
     (ended ≡ [] → ⊥) → ((found : ℕ) → fault ≡ MissingEdges found → ⊥) → JudgedFault bounds given fault

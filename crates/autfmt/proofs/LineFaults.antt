@@ -19,8 +19,8 @@ use Rattle.autfmt.specs.Reading.{header_at, transition_at}
 use Rattle.autfmt.proofs.Decisions.{one_header, decide_header, decide_transition, unread}
 use Rattle.autfmt.specs.declared.line.TheConstants.{LONGEST_LINE}
 
--- `wrong_numbers bounds f m n` is the error in the numbers that a header declares, or None if these numbers are
--- allowed.
+-- Suppose that a header declares the first state f, m transitions and n states. `wrong_numbers bounds f m n` is the
+-- error in these numbers, or `None` if `bounds` allows them.
 abbrev pub wrong_numbers : Bounds → ℕ → ℕ → ℕ → Option Fault
 wrong_numbers bounds f m n =
     cond (eqb n 0) (Some NoStates)

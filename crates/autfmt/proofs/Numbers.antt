@@ -85,9 +85,9 @@ number_at-takes (b ∷ bytes) n rest e =
 
 -- ---- Every decimal number can be read
 
--- `Leads n digits` states how the number n is read from the bytes `digits`, if n is less than 10 ^ 10. Reading a number
--- from `digits` and any further bytes (`number_at`) has the same result as continuing with the number n and the further
--- bytes (`more_digits`).
+-- `Leads n digits` holds if n is at least 10 ^ 10, or if the bytes `digits` are read as the number n. This means that
+-- reading a number from `digits` and any further bytes (`number_at`) has the same result as continuing with the number
+-- n and the further bytes (`more_digits`).
 abbrev Leads : ℕ → List ℕ → Type 0
 Leads n digits = n < 10 ^ 10 → (tail : List ℕ) → number_at (digits ++ tail) ≡ more_digits n tail
 

@@ -26,7 +26,7 @@ pub const EMPTY: u32 = 0;
 pub const MOST_ENTRIES: usize = 0xFFFF_FFFF;
 
 /// The largest number of buckets of a new table. A new table has fewer buckets only if it is made with room for fewer
-/// entries. Buckets are added later, when there are more entries than buckets.
+/// entries than this number. Buckets are added later, when there are more entries than buckets.
 const FIRST_BUCKETS: usize = 1 << 12;
 
 /// The largest possible number of buckets.

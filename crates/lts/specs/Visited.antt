@@ -1,6 +1,6 @@
--- Defines the list of the places (indices in the list of all transitions) of the transitions that were visited in a
--- round. A visit is a counted read of a transition. This file also defines the number of visits that are needed to read
--- the other transitions.
+-- The place of a transition is its index in the list of all transitions. This file defines the list of the places of
+-- the transitions that were visited in a round. A visit is a counted read of a transition. This file also defines the
+-- number of visits that are needed to read the other transitions.
 use Rattle.std.specs.Prelude.{◌≡◌, ◌↔◌, ℕ, ◌-◌, ◌/◌, ◌%◌, ◌<◌, ◌==◌, Bool, not, cond, List, length, map, Contains}
 use Rattle.std.specs.Prelude.{slice_index_or}
 use Rattle.std.specs.List.{All, IsDistinct, list_any, filter, sum_by, range_with_len}

@@ -93,8 +93,8 @@ impl Visited {
         self.places.clear();
     }
 
-    /// Visits the transition at the place (index) `k`, which means that the meter `m` counts this read, and adds `k` to
-    /// the set. If the method `edge` reads this transition later in the round, that read is not counted.
+    /// Visits the transition at the place (index) `k`: reads the transition, counts this read on the meter `m`, and
+    /// adds `k` to the set. If the method `edge` reads this transition later in the round, that read is not counted.
     #[inline(always)]
     pub fn visit<M: Meter>(&mut self, l: &Lts<M>, k: u32, m: &mut M) -> Result<(), Memory>
         requires place { k < length l.now.places }

@@ -36,8 +36,8 @@ module _ {b : ℕ} {reached : Bool} {old new : Numbers} (takes : TakesState b re
   TakesState-room = grind (arith, length-set {A = ℕ}, length_push {X = ℕ}, takes.classes)
 
   -- Suppose that a state has just been given its class number, which is the number of the quotient state that
-  -- represents it. Then each entry of the list of classes either was at the same index of this list before, or is the
-  -- block of this state at the last index.
+  -- represents it. Then at most one entry was added to the list of classes: the block of this state, at the end of the
+  -- list. All other entries of the list are the same as before.
   pub class_at : (i : ℕ) → i < length new.classes.items → ((i < length old.classes.items)
       × (slice_index new.classes.items i ≡ slice_index old.classes.items i))
       ⊎ (IsTrue reached × (slice_index old.by_block.items b ≡ NONE) × (i ≡ length old.classes.items)

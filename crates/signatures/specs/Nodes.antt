@@ -99,9 +99,9 @@ abbrev pub list_of_shape : List (List (ℕ × ℕ)) → Shape → List (ℕ × �
 list_of_shape lists (Pairs list) = list.now
 list_of_shape lists (Cut h) = list_at lists h.below ++ list_at lists h.above
 
--- `IsWholeList` holds if a new list can be stored as a range of pairs. This requires that the list has at least one and
--- at most 64 pairs (`MOST_WHOLE`). The pairs must be in strictly ascending order. The second component of each pair
--- must be less than 2^32.
+-- `IsWholeList` holds if the list can be stored undivided, as one range of the buffer of pairs. This requires that the
+-- list has at least one and at most 64 pairs (`MOST_WHOLE`). The pairs must be in strictly ascending order. The second
+-- component of each pair must be less than 2^32.
 pub record IsWholeList (list : List (ℕ × ℕ)) : Type 0 where
   pub some : 0 < length list
   pub few : length list ≤ MOST_WHOLE

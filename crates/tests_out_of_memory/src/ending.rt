@@ -36,8 +36,8 @@ impl Ending {
         }
     }
 
-    /// Rates an example in which an allocation failed. The argument `is_right` says whether the example satisfied its
-    /// contract. If it did, the call returns `Refused`, and otherwise `Wrong`.
+    /// Returns the verdict on an example in which an allocation failed. The argument `is_right` says whether the
+    /// example satisfied its contract. If it did, the call returns `Refused`, and otherwise `Wrong`.
     pub(crate) fn refused_if(is_right: bool) -> Ending {
         if is_right {
             Ending::Refused

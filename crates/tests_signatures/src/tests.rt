@@ -221,8 +221,8 @@ fn what_is_forgotten_is_numbered_anew(rt: HostRuntime) -> Result<(), Fail> {
 }
 
 /// Makes a list of the 40 pairs `(step * k % 41, 0)` for k from 1 to 40, with each pair twice. Fails if `order` does
-/// not put this list into ascending order without repetition. The given list is ascending, except at `step - 1`
-/// positions where the next pair is smaller.
+/// not put this list into ascending order without repetition. Before it is sorted, the list is ascending, except at
+/// `step - 1` positions where the next pair is smaller.
 fn check_order(alloc: Global, step: u32) -> Result<(), Fail> {
     let mut pairs = Vec::new(alloc);
     let mut wanted = Vec::new(alloc);

@@ -268,8 +268,8 @@ module _ {u : Under} {signatures : List (List (ℕ × ℕ))} {w : Search} (walks
           (grind (arith, SearchInvariant-enter, grow, stage_of, unseen), omega (arith, read, row, push))
 
   -- Each frame belongs to a state on the stack, and records which outgoing transitions of this state are still to be
-  -- read. These lemmas assume that the next transition of the frame at the index i is at the place (index) m, and that
-  -- this transition is marked as read.
+  -- read. These lemmas are about the step in which the frame with the index i reads its next transition. This
+  -- transition is at the place m in the list of all transitions, and the step marks it as read.
   module _ {i m : ℕ} {x : Frame} (low : i < length w.frames) (is : x ≡ record (frame_at w.frames i) { next = m + 1 })
       (next : (frame_at w.frames i).next ≡ m) (more : m < (frame_at w.frames i).end) where
     abbrev pub Moved : Search

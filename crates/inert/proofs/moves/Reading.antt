@@ -202,8 +202,8 @@ module _ {u : Under} {signatures : List (List (ℕ × ℕ))} {first w : Search} 
       same_last = omega (arith, stays.size, last)
 
       -- Suppose that the search has read all transitions of the current state before the place (index) k. It then first
-      -- processes the transition at the place k, and afterwards marks it as read. Then the invariant of the search
-      -- still holds (`Marked`).
+      -- processes the transition at the place k, and afterwards marks it as read. After both steps, the condition
+      -- `Marked` holds, which includes the invariant of the search.
       taken_first : (m : Search) (enters : Bool) → HandlesStep u.l.places step w m enters
           → Marked u signatures first (record m { frames = set m.frames i x }) k enters
       taken_first m enters takes =

@@ -170,8 +170,8 @@ fn verdicts(rt: HostRuntime) -> Result<(), Fail> {
     Ok(())
 }
 
-/// Hides the labels of the hide list (the labels to hide) in a system, minimises the result, and returns the sink (the
-/// object to which the output is written) that has the quotient.
+/// Hides the labels of the hide list in a system, and minimises the result. Returns the sink (the object to which the
+/// output is written), which then has the quotient.
 fn quotient(alloc: Global, text: &[u8], list: &[u8], rel: Relation) -> Result<VecSink, Fault> {
     let hidden = read_hidden(alloc, &mut SliceSource::new(list, None))?;
     let (answer, sink, _) = run_hiding(alloc, text, &hidden, rel);

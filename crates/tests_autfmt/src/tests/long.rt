@@ -113,8 +113,8 @@ const PLAIN: Around = ("des (0, 1, 2)\n(0, ", ", 1)\n");
 
 const QUOTED: Around = ("des (0, 1, 2)\n(0, \"", "\", 1)\n");
 
-/// Each entry has a byte that is repeated to make a label of the largest length, the text around this label in the
-/// input, and the text around this label in the output.
+/// Each entry has three parts. The first part is a byte, which is repeated to make a label of the largest length. The
+/// other parts are the text around this label in the input, and the text around it in the output.
 const LABELS: [(u8, Around, Around); 3] = [
     (b'a', PLAIN, PLAIN),
     (b'a', QUOTED, PLAIN),

@@ -116,7 +116,7 @@ silent_from A s = reached A.transitions is_internal A.states s
 abbrev pub inert_from : System → (ℕ → ℕ) → ℕ → List ℕ
 inert_from A blocks s = reached A.transitions (is_inert blocks) A.states s
 
--- `reachable` returns the states to which paths lead from the first state.
+-- `reachable` returns the states that can be reached from the initial state by a path.
 abbrev pub reachable : System → List ℕ
 reachable A = reached A.transitions (λ e. true) A.states A.first
 

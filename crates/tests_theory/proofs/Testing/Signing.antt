@@ -31,8 +31,8 @@ contains_has_entry xs x n c =
     some_from xs (λ p. and_then (bytes_eq p.0 x) (λ _. eqb p.1 n)) (x, n) c
     (and_then_from (bytes_eq x x) (λ _. eqb n n) (bytes_pass x x refl) (eq-eqb n n refl))
 
--- `from_step` returns true if the entry p, a pair of a label and a block ID, comes from a transition of the state u.
--- This means that u has a transition with the label in p to a state in the block in p.
+-- Let p be a pair of a label and a block ID. `from_step` returns true if the state u has a transition with this label
+-- to a state of this block. This means that u has a transition with the label in p to a state in the block in p.
 abbrev pub from_step : System → (ℕ → ℕ) → ℕ → Entry → Bool
 from_step A blocks u p = some_step A.transitions u (λ x t. and_then (bytes_eq x p.0) (λ _. eqb (blocks t) p.1))
 
