@@ -117,8 +117,9 @@ abbrev pub IsJobIn : Option (Text × List Row) → Job → Type 0
 IsJobIn subcommand job = (name : Text) × (rows : List Row) × (subcommand ≡ Some (name, rows)) × HasMatches name rows job
 
 -- `IsFaultIn subcommand fault` states which errors are possible when a job (a subcommand with its options) is made from
--- the subcommand that `clap` has found. There are three possible errors: the relation is unknown, a mandatory argument
--- is missing, or an allocation failed.
+-- the subcommand that `clap` has found. There are three possible errors: the relation is unknown, the subcommand or a
+-- mandatory argument is missing, or an allocation failed. The definition states a condition only for an unknown
+-- relation.
 abbrev pub IsFaultIn : Option (Text × List Row) → WordFault → Type 0
 IsFaultIn subcommand (fault.Relation named) = (name : Text) × (rows : List Row) × (subcommand ≡ Some (name, rows))
     × NamesNoRelation (relation_in rows) (fault.Relation named)
@@ -155,9 +156,9 @@ IsJobOf words job = AreTaken words × IsJobIn (subcommand_of program_app words) 
 
 -- `IsFaultOf words fault` holds if `fault` is a correct reason why the command-line arguments `words` do not lead to a
 -- job (a subcommand with its options). There are four possible reasons. First, `clap` accepts the arguments, and the
--- relation is unknown. Second, the arguments ask for help or for the version. Third, `clap` reports another error than
--- a request for help, or it accepts the arguments although a mandatory argument is missing. Fourth, an allocation
--- failed.
+-- relation is unknown. Second, the arguments ask for help or for the version. Third, `clap` reports an error other than
+-- a request for help or for the version, or it accepts the arguments although the subcommand or a mandatory argument is
+-- missing. Fourth, an allocation failed.
 abbrev pub IsFaultOf : List Text → WordFault → Type 0
 IsFaultOf words (fault.Relation named) =
     AreTaken words × IsFaultIn (subcommand_of program_app words) (fault.Relation named)

@@ -1,6 +1,7 @@
--- A system in memory differs from the system that its input describes only in the order of its transitions. So a
--- comparison of two systems in memory has the same verdict (whether the systems are equivalent) as a comparison of the
--- systems that the inputs describe. It also takes the same number of rounds. The lemmas below prove these facts.
+-- Consider the system that an input describes, after the labels to hide have been hidden in it. The system in memory
+-- differs from this system only in the order of its transitions. So a comparison of two systems in memory has the same
+-- verdict (whether the systems are equivalent) as a comparison of the systems that the inputs describe. It also takes
+-- the same number of rounds. The lemmas below prove these facts.
 use Rattle.std.proofs.Common.{rules, ◌≡◌, ◌↔◌, ℕ, ◌+◌, ◌*◌, Bool, IsTrue, List, length, ap₂, sym}
 use Rattle.std.specs.List.Sorted.{IsPermutation}
 use Rattle.std.proofs.lemmas.List.Sorted.{IsPermutation-sym}

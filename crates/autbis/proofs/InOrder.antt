@@ -81,8 +81,9 @@ module _ {F : Type 0} {files : FilesUsed F} {first more : List Name} (mid : F)
 
   -- `IsGivenUp` holds if a job (the task that the command line asks for) ended early. The reason is that one of its
   -- files could not be opened, or that the hide list (the file with the labels to hide) could not be read. Suppose that
-  -- the files in the list `first` were opened, and that the job then ended early while the files in the list `more`
-  -- were opened or the hide list was read. Then `IsGivenUp` holds for the list `first ++ more`.
+  -- the files in the list `first` were opened, that no file that had failed was closed until then, and that the job
+  -- then ended early while the files in the list `more` were opened or the hide list was read. Then `IsGivenUp` holds
+  -- for the list `first ++ more`.
   pub given_up_after : {hide : Option Name} {status : ℕ} → HasLostNone (record files { new = mid }) →
       IsGivenUp (record files { old = mid }) more hide status → IsGivenUp files (first ++ more) hide status
   given_up_after kept (inl other) = inl (refused_after other)

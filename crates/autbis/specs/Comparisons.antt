@@ -48,9 +48,9 @@ IsVerdict asked both same =
 
 -- `CountsUnion` holds if a meter has counted the rounds and the visits (reads of transitions) of a whole comparison of
 -- two systems. Let r be the number of rounds that the meter has counted, and let m be the number of transitions of both
--- systems together. Three conditions must hold. First, the refinement of the union of both systems takes r rounds.
--- Second, r is at most the number of states of both systems together. Third, the meter has counted exactly (r + 1) * m
--- visits.
+-- systems together. Three conditions must hold. First, the refinement of the union of both systems takes r rounds,
+-- after the labels to hide have been hidden in them. Second, r is at most the number of states of both systems
+-- together. Third, the meter has counted exactly (r + 1) * m visits.
 pub record CountsUnion (asked : Request) {first second : List ℕ} (both : ReadBoth asked.bounds first second)
     (at : Counts) : Type 0 where
   pub turns : Turns asked.relation (union_of (Hide asked.hidden both.one) (Hide asked.hidden both.other)) at.rounds
@@ -92,7 +92,8 @@ pub record FirstReadFails {A B : Type 0} (bounds : Bounds) (first : List ℕ) (s
 
 -- `SecondReadFails` holds if a comparison failed because no system could be read from the second source, which is the
 -- object from which the second input is read. The error `fault` must state the reason, and that the error occurred in
--- the second input. The first input must be correct, and must have been read to its end.
+-- the second input. The first input must be correct, and must have been read to its end without a failure of its
+-- source.
 pub record SecondReadFails {A B : Type 0} (bounds : Bounds) (first : List ℕ) (sources : Used A × Used B)
     (fault : CmpFault) : Type 0 where
   pub side : fault.side ≡ Second

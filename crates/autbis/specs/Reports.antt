@@ -39,7 +39,7 @@ IsWordStatus old new _ status = (status ≡ 3) × Keeps old new
 
 -- `stats_line` is the line that the option `--stats` writes. The line has the numbers of states and transitions of the
 -- system, and the numbers of rounds and visits (reads of transitions) that the meter has counted. The last number in
--- the line is the largest number of visits that is allowed for this number of rounds.
+-- the line is the allowance, which is an upper bound on the number of visits for this number of rounds.
 abbrev pub stats_line : Relation → Counts → meter.Counts → List ℕ
 stats_line rel sizes at = codes "stats: states " ++ decimal sizes.states
     ++ codes " transitions " ++ decimal sizes.transitions
@@ -47,9 +47,9 @@ stats_line rel sizes at = codes "stats: states " ++ decimal sizes.states
     ++ codes " allowance " ++ decimal (allowance rel sizes.states sizes.transitions at.rounds) ++ codes "\n"
 
 -- `ShowsCounts` holds if a prefix of the line of `--stats` was written to standard error. The line must contain the
--- size of the system that was read, and the number of rounds that the refinement of this system takes. It must also
--- contain a number of visits (reads of transitions) that is within the bounds for a minimisation with this number of
--- rounds.
+-- size of the system that was read, and the number of rounds that the refinement of this system takes after the labels
+-- to hide have been hidden. It must also contain a number of visits (reads of transitions) that is within the bounds
+-- for a minimisation with this number of rounds.
 abbrev pub ShowsCounts : Request → (revealed old new : Option (List ℕ)) → Type 0
 ShowsCounts asked revealed old new = OfText revealed
     (λ text. (A : System) × Reads asked.bounds text A × (at : meter.Counts)

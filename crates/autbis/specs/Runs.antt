@@ -97,9 +97,10 @@ abbrev pub IsFaulty : Bounds → List ℕ → Type 0
 IsFaulty bounds text = (A : System) → ¬ Reads bounds text A
 
 -- `MinimisesTo` holds if a minimisation has read its input to the end and written the minimised system. Let m be the
--- number of transitions of the system that was read, and let r be the number of rounds that the meter has counted. The
--- refinement of this system must take r rounds. The number of visits (counted reads of transitions) must be between r *
--- m and (r + 2) * m. The argument `counts` must be the size of the system that was read.
+-- number of transitions of the system that was read, and let r be the number of rounds that the meter has counted.
+-- After the labels to hide have been hidden, the refinement of this system must take r rounds. The number r must be at
+-- most the number of states. The number of visits (counted reads of transitions) must be between r * m and (r + 2) * m.
+-- The argument `counts` must be the size of the system that was read.
 pub record MinimisesTo {In Out : Type 0} (asked : Request) (text : List ℕ) (source : Used In) (sink : Used Out)
     (at : meter.Counts) (counts : Counts) : Type 0 where
   pub to : MinimisedText asked text

@@ -11,8 +11,8 @@ use autfmt::{Broken, Fault, Sink, put_all};
 use std::io::Write;
 
 /// Writes a message about the error `f` to `e`, and returns the exit status of this error: 5 for `Device`, 4 for
-/// `Memory`, and 2 otherwise. If the contents of a file are incorrect, the message contains the name `name` of this
-/// file.
+/// `Memory`, and 2 otherwise. If the contents of a file or of standard input are incorrect, the message contains the
+/// name `name`.
 pub fn report<E: Write>(f: &Fault, name: &str, e: &mut E) -> u8
     ensures status { result ≡ status_of f.now }
 {
@@ -98,7 +98,8 @@ fn report_unknown<E: Write>(word: &str, e: &mut E) -> u8
     3
 }
 
-/// Writes `b` to `e` until all bytes are written or a write fails. Returns whether all bytes were written.
+/// Writes `b` to `e` until all bytes are written, or a write fails or writes no byte. Returns whether all bytes were
+/// written.
 pub fn say<E: Write>(b: &[u8], e: &mut E) -> bool
     ensures whole { IsTrue result → Appends (E.contents e.old) (E.contents e.new) b.now }
     ensures part { AppendsPrefix (E.contents e.old) (E.contents e.new) b.now }

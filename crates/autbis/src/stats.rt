@@ -73,8 +73,8 @@ fn append_count(buffer: &mut [u8], end: usize, word: &[u8], count: u128) -> usiz
     append(buffer, end, digits.format(count).as_bytes())
 }
 
-/// Returns the largest number of visits (reads of transitions) that a minimisation with `rounds` rounds may make. The
-/// argument `counts` is the size of the system.
+/// Returns the allowance, which is an upper bound on the number of visits (reads of transitions) of a minimisation with
+/// `rounds` rounds. The argument `counts` is the size of the system.
 fn allowed_visits(counts: Counts, rel: Relation, rounds: u128) -> u128
     requires { rounds ≤ counts.states }
     ensures { result ≡ allowance rel counts.states counts.transitions rounds }

@@ -23,7 +23,8 @@ use Rattle.autfmt.specs.declared.line.TheConstants.{LONGEST_LINE}
 use Rattle.autfmt.specs.declared.limits.TheConstants.{MOST_LINES}
 
 -- `GoodHide k line` holds if line k of a hide list (a file with one label to hide on each line) is correct. First, k
--- must be at most the number of lines that are allowed. Second, the line must be a label, with any blanks around it.
+-- must be at most the number of lines that are allowed. Second, the line must be a label, with any blanks around it,
+-- and must have at most 8192 bytes.
 abbrev pub GoodHide : ℕ → List ℕ → Type 0
 GoodHide k line = (k ≤ MOST_LINES) × (a : List ℕ) × Hides line a
 

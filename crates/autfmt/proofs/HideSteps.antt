@@ -57,8 +57,8 @@ module _ {given : List ℕ} {old : Cutting} {H hidden : List (List ℕ)} (got : 
   as_many : length H ≡ length so_far.lines
   as_many = AllZip-long Hides so_far.lines H so_far.named
 
-  -- Suppose that all bytes that were read are divided into lines, and that the source (the object from which the hide
-  -- list is read) has ended. Then these bytes are a hide list with the labels that were read.
+  -- Suppose that no more lines were read than are allowed, and that all bytes that were read are divided into lines.
+  -- Then these bytes are a hide list with the labels that were read.
   pub hide_ends : length H ≤ MOST_LINES → old.ahead ++ got ≡ [] → HidesAs (given ++ got) hidden
   hide_ends few none = (
     H,
@@ -69,7 +69,8 @@ module _ {given : List ℕ} {old : Cutting} {H hidden : List (List ℕ)} (got : 
   -- Suppose that the source (the object from which the hide list is read) fails before the next line has been read to
   -- its end. Then the reader may return `Device`, which is the error of a failed source. The contract allows this error
   -- only if the first error of the hide list still depends on the bytes that may follow. It depends on them, because
-  -- the next line may still become too long.
+  -- the next line may still become too long, or because no further line is allowed and the hide list has no error if it
+  -- ends here.
   pub hide_failed : (rest : Option (List ℕ)) (failures : ℕ) → length H ≤ MOST_LINES →
       (length H < MOST_LINES) ⊎ (length (old.ahead ++ got) ≡ 0) → failures ≡ 1 → (old.over ≡ true → ⊥) →
       IsPart (old.ahead ++ got) → HideRefuses (given ++ got) rest failures Device

@@ -25,14 +25,14 @@ blanks_no_digits b blank = grind arith
 
 -- ---- Only decimal numbers can be read
 
--- If the digit d is appended to the decimal digits of a number v that is not 0, then the result is the decimal digits
--- of 10 * v + d.
+-- If the digit d is appended to the decimal digits of a number v that is not 0 and is less than 10 ^ 18, then the
+-- result is the decimal digits of 10 * v + d.
 pub decimal-more : (v d : ℕ) → 0 < v → v < 10 ^ 18 → d < 10 → decimal (10 * v + d) ≡ decimal v ++ ((48 + d) ∷ [])
 decimal-more v d positive small digit = grind (arith, decimal_step)
 
 -- `Took v bytes n rest` holds if a number was read from the list `bytes` after the digits of v. The decimal digits of
--- the number n are the digits of v, followed by the digits that were read from `bytes`. The list `rest` has the bytes
--- after these digits.
+-- the number n are the digits of v, followed by the digits that were read from `bytes`, and n is less than 10 ^ 10. The
+-- list `rest` has the bytes after these digits.
 record Took (v : ℕ) (bytes : List ℕ) (n : ℕ) (rest : List ℕ) : Type 0 where
   digits : List ℕ
   parts : bytes ≡ digits ++ rest

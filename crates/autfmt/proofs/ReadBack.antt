@@ -220,7 +220,8 @@ listed_whole B system small =
     let all = header_line B ∷ map transition_line es in
     (all, [], record { whole = listed_lines B; lines = lines; one = none }, sym (append-nil all))
 
--- If a system is within the limits for files, then the text that is written for the system denotes this system.
+-- Suppose that a well-formed system is within the limits `bounds`, and that these do not exceed the limits for files.
+-- Then the text that is written for the system denotes this system.
 listed_reads : (bounds : Bounds) (B : System) → IsWithinFile bounds → IsSystem B → B.states ≤ bounds.states
     → length B.transitions ≤ bounds.transitions → Reads bounds (listed B) B
 listed_reads bounds B within system states transitions =

@@ -132,7 +132,8 @@ module _ {bounds : Bounds} {given : List ℕ} {old : Cutting} {p : Promise} {es 
   -- Suppose that the source (the object from which the input is read) fails before the next line has been read to its
   -- end. Then the reader may return `Device`, which is the error of a failed source. The contract allows this error
   -- only if the first error of the input still depends on the bytes that may follow. It depends on them, because the
-  -- next line may still become too long.
+  -- next line may still become too long, or because all transitions have been read and the input has no error if it
+  -- ends here.
   pub transition_failed : (rest : Option (List ℕ)) (failures : ℕ) → length es ≤ p.transitions →
       (length es < p.transitions) ⊎ (length (old.ahead ++ got) ≡ 0) → failures ≡ 1 → (old.over ≡ true → ⊥) →
       IsPart (old.ahead ++ got) → Refuses bounds (given ++ got) rest failures Device

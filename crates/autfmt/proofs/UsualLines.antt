@@ -43,8 +43,8 @@ digits_in_front : (n : ℕ) (bytes : List ℕ) → n ≤ length bytes → n ≤ 
     AreDigits (take n bytes)
 digits_in_front n bytes within digits i h = grind (arith, length-take-le, get_or-take, digit-range, prefix_len_passes)
 
--- Suppose that the first eight bytes of a list begin with digits, and that there is no leading zero. Then the list
--- begins with the decimal digits of a number.
+-- Suppose that the first eight bytes of a list begin with one to seven digits, and that there is no leading zero. Then
+-- the list begins with the decimal digits of a number.
 pub number_in_front : (bytes : List ℕ) (n v : ℕ) → AreDigitsInFront bytes n v → (1 < n → get_or bytes 0 0 ≢ 48) →
     BeginsWithNumber bytes v (drop n bytes)
 number_in_front bytes n v found leads =

@@ -1,5 +1,5 @@
 -- The writer prepares some bytes once and copies them into many lines. This file defines two kinds of such bytes: the
--- bytes before the label, which all lines of transitions with the same source share, and the written form of each short
+-- bytes before the label, which all lines of transitions with the same source share, and the written form of a short
 -- label (at most 28 bytes).
 use Rattle.std.specs.Prelude.{◌≡◌, ℕ, ◌<◌, ◌≤◌, List, [], ◌++◌, length, get_or, take, codes, decimal}
 use Rattle.autfmt.specs.declared.spelling.Spelled.{Spelled}

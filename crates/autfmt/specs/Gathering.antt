@@ -14,8 +14,9 @@ use Rattle.autfmt.specs.Cutter.{Cutting, BeginsTooLong, CutsLine, CutsEnd, IsPar
 -- of bytes until a line ends. The list `bytes` has the bytes that were in the buffer before the call, followed by the
 -- bytes that the call has read. The arguments `buffer` and `chunk` are the buffer and the chunk after the call. The
 -- chunk begins with the bytes that were read last. If the result is `Feed`, the buffer has the first line of `bytes`,
--- and the chunk has the line feed after this line. If the result is `Long`, the first line of `bytes` is too long. If
--- the result is `AtEnd`, the buffer has all of `bytes`, which are the last line of the input or are empty.
+-- and the line feed after this line is at the index `at` of the chunk. The bytes that were read last end before the
+-- index `to` of the chunk. If the result is `Long`, the first line of `bytes` is too long. If the result is `AtEnd`,
+-- the buffer has all of `bytes`, which are the last line of the input or are empty.
 abbrev pub FoundIn : List ℕ → Found → List ℕ → List ℕ → Type 0
 FoundIn bytes (Feed at to) buffer chunk =
     IsPart buffer × (at < to) × (to ≤ length chunk) × (bytes ≡ buffer ++ 10 ∷ slice_range chunk (at + 1) to)
@@ -44,17 +45,18 @@ Makes over bytes End now = CutsEnd bytes now
 -- the next line. The argument `now` is the state of the line splitter after the call. The argument `over` is true if
 -- the source (the object from which the input is read) had ended before the call. The list `bytes` has the bytes that
 -- were not yet divided into lines before the call, followed by the bytes that the call has read from the input. If the
--- call succeeded, `Makes` must hold for the value that the call returned. If the source has failed, `bytes` must be a
--- part of one line.
+-- call succeeded, `Makes` must hold for the value that the call returned. If the source has failed, it must not have
+-- ended before the call, and `bytes` must be a part of one line.
 abbrev pub Advances : {E : Type 0} → Bool → List ℕ → Result Step E → Cutting → Type 0
 Advances over bytes result now =
     MatchResult result (λ step. Makes over bytes step now) (λ _. (over ≡ false) × IsPart bytes)
 
 -- `Peeks bytes result now` holds if `result` is correct for a call of the function `is_at_end`. The argument `now` is
 -- the state of the line splitter after the call. The list `bytes` has the bytes that were not yet divided into lines
--- before the call, followed by the bytes that the call has read from the input. If the result is true, `bytes` must be
--- empty. If the result is false, `bytes` must not be empty. If the source (the object from which the input is read) has
--- failed, `bytes` must be empty.
+-- before the call, followed by the bytes that the call has read from the input. If the call succeeded, `bytes` must be
+-- the bytes that are not yet divided into lines after the call (`now.ahead`), and the result must say whether the input
+-- has ended (`now.over`). If the result is true, `bytes` must be empty. If the result is false, `bytes` must not be
+-- empty. If the source (the object from which the input is read) has failed, `bytes` must be empty.
 abbrev pub Peeks : {E : Type 0} → List ℕ → Result Bool E → Cutting → Type 0
 Peeks bytes result now =
     MatchResult result

@@ -22,7 +22,7 @@ pub record HideReadsTo (given : List ℕ) (rest : Option (List ℕ)) (failures :
 -- from which the hide list is read) will still return, or is `None` if these bytes are not known. There are three
 -- cases. In the first case, `fault` is an error in the contents of the hide list (`IsHideFault`). If `rest` is not
 -- `None`, `fault` must be the first error of the whole hide list. In the second case, the source has failed, and
--- `fault` is `Device`. The bytes `given` must not be enough to show that the hide list has an error
+-- `fault` is `Device`. The bytes `given` must not be enough to show which error is the first error of the hide list
 -- (`JudgedHideFault`). In the third case, an allocation has failed, and `fault` is `Memory`.
 pub data HideRefuses (given : List ℕ) (rest : Option (List ℕ)) (failures : ℕ) (fault : Fault) : Type 0 where
   faulty_text : failures ≡ 0 → IsHideFault fault → IfSome rest (λ more. FirstHideFault (given ++ more) fault) →

@@ -45,8 +45,8 @@ pub record ReadsTo (bounds : Bounds) (H : List (List ℕ)) (given : List ℕ) (r
 -- read) will still return, or is `None` if these bytes are not known. There are three cases. In the first case, `fault`
 -- is an error in the contents of the input (`IsTextFault`). If `rest` is not `None`, `fault` must be the first error of
 -- the whole input. In the second case, the source has failed, and `fault` is `Device`. The bytes `given` must not be
--- enough to show that the input has an error (`JudgedFault`). In the third case, an allocation has failed, and `fault`
--- is `Memory`. If `rest` is not `None`, line 1 of the input must be a correct header.
+-- enough to show which error is the first error of the input (`JudgedFault`). In the third case, an allocation has
+-- failed, and `fault` is `Memory`. If `rest` is not `None`, line 1 of the input must be a correct header.
 pub data Refuses (bounds : Bounds) (given : List ℕ) (rest : Option (List ℕ)) (failures : ℕ)
     (fault : Fault) : Type 0 where
   faulty_text : failures ≡ 0 → IsTextFault fault → IfSome rest (λ more. FirstFault bounds (given ++ more) fault) →

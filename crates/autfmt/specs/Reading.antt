@@ -107,7 +107,8 @@ past_des line = do
   past 115 rest
 
 -- `number_then c line` reads a number and then the byte c at the beginning of the line, with any number of blanks
--- before each of them. The result is the number and the bytes after c.
+-- before each of them. The result is the number and the bytes after c, or `None` if the line does not begin in this
+-- way.
 unfoldable pub number_then : ℕ → List ℕ → Option (ℕ × List ℕ)
 number_then c line = do
   n ← number_at (after_blanks line)
@@ -126,7 +127,7 @@ header_at line = do
   if are_blanks n.1 then Some (f.0, m.0, n.0) else None
 
 -- `ending_at rest` reads the end of the line of a transition from the bytes `rest`, which begin with the label. The
--- result is the label and the target of the transition.
+-- result is the label and the target of the transition, or `None` if `rest` is not the end of such a line.
 unfoldable pub ending_at : List ℕ → Option (List ℕ × ℕ)
 ending_at rest = do
   a ← label_at rest

@@ -54,7 +54,7 @@ SpellsAmong n line e = SpellsTransition line e × IsAmong n e
 
 -- `Reads bounds text A` holds if the text denotes the system A. The first line of the text is a header with the numbers
 -- of A, which are within the limits `bounds`. Each further line denotes one transition of A, in the order in which A
--- lists its transitions.
+-- lists its transitions. The system A must be well-formed (`IsSystem`).
 pub record Reads (bounds : Bounds) (text : List ℕ) (A : System) : Type 0 where
   pub header : List ℕ
   pub lines : List (List ℕ)

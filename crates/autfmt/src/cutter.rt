@@ -1,6 +1,6 @@
 //! The line splitter (`Cutter`) divides the bytes of a source (the object from which the input is read) into lines. It
-//! reads the bytes in chunks. If a line lies within one chunk, the line is not copied. Otherwise, the parts of the line
-//! are copied to a buffer.
+//! reads the bytes in chunks. If a line and its line feed lie within one chunk, the line is not copied. Otherwise, the
+//! parts of the line are copied to a buffer.
 ghost use Rattle.std.specs.Prelude.{◌≡◌, ℕ, ◌+◌, ◌<◌, List, [], ◌∷◌, ◌++◌, length, take, drop, true, false, IsTrue};
 ghost use Rattle.std.specs.Prelude.{Some, None, Ok, IfSome, IfNone};
 ghost use Rattle.std.specs.List.{slice_range};

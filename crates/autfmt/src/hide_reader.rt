@@ -25,8 +25,8 @@ use std::alloc::Global;
 /// - `LineTooLong`, `BadHide` or `TooManyHidden`: the first error of the hide list. The error is returned as soon as no
 ///   further bytes could change it. The contract does not state how many bytes after the error are read from the
 ///   source.
-/// - `Device`: the source failed, and the bytes that it had returned before are not enough to show that the hide list
-///   has an error.
+/// - `Device`: the source failed, and the bytes that it had returned before are not enough to show which error is
+///   the first error of the hide list.
 /// - `Memory`: an allocation failed.
 pub fn read_hidden<R: Source>(alloc: Global, r: &mut R) -> Result<Hidden, Fault>
     requires { R.failures r.old ≡ 0 }

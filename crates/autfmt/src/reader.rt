@@ -34,8 +34,8 @@ use std::alloc::Global;
 ///
 /// - `BadHeader` to `MissingEdges`: the first error of the input. The error is returned as soon as no further bytes
 ///   could change it. The contract does not state how many bytes after the error are read from the source.
-/// - `Device`: the source failed, and the bytes that it had returned before are not enough to show that the input has
-///   an error.
+/// - `Device`: the source failed, and the bytes that it had returned before are not enough to show which error is
+///   the first error of the input.
 /// - `Memory`: an allocation failed. This error can be returned only if line 1 is a correct header.
 pub fn read<M: Meter, R: Source>(alloc: Global, r: &mut R, lim: &Limits) -> Result<Lts<M>, Fault>
     requires { R.failures r.old ≡ 0 }

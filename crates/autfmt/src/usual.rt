@@ -1,5 +1,6 @@
 //! This module reads a transition in one of its most common written forms, which are `(12, "label", 34)` and
-//! `(12,"label",34)`. The bytes of the transition are read in one pass and are not copied.
+//! `(12,"label",34)`. The label may also be written without quotation marks. The bytes of the transition are read in
+//! one pass and are not copied.
 ghost use Rattle.std.specs.Prelude.{◌≤◌, length, IfSome};
 ghost use Rattle.theory.specs.System.{IsLabel};
 ghost use Rattle.autfmt.specs.Usual.{BeginsWithNumber, FollowsComma, FollowsEnd, HasMark, BeginsWithLabel};
@@ -46,8 +47,8 @@ fn past_end(bytes: &[u8]) -> Option<&[u8]>
 /// Reads the number with which the bytes begin. Returns the number and the bytes after it. The result is `None` in four
 /// cases: the bytes do not begin with a digit, they begin with eight or more digits, a digit follows a leading zero, or
 /// there are fewer than nine bytes. If the function returns a number, there are at least two bytes after this number.
-/// Therefore the caller can read the byte after the number without checking the length. This saves 5 % of the reading
-/// time.
+/// Therefore the caller can read the two bytes after the number without checking the length. This saves 5 % of the
+/// reading time.
 #[inline(always)]
 fn short_number(bytes: &[u8]) -> Option<(u64, &[u8])>
     ensures number { IfSome result (λ x. BeginsWithNumber bytes.now x.0 x.1.now) }

@@ -21,7 +21,8 @@ const MOST_SPELLED: usize = 4096;
 /// The labels of a system, prepared for writing. The field `entries` has the labels with their IDs, sorted by the bytes
 /// of the labels. The field `ranks` has, for each label ID, the index of the label in `entries`. The field `plain`
 /// states for each entry whether its label may be written without quotation marks. The field `spelled` has the written
-/// forms of the labels of the first `MOST_SPELLED` entries, or of all entries if there are fewer.
+/// forms of the labels of the first `MOST_SPELLED` entries, or of all entries if there are fewer. For a label of more
+/// than 28 bytes, it has an item that stores no bytes.
 #[derive(Drop)]
 pub(crate) struct Words<'a> {
     pub entries: Vec<(&'a [u8], u32)>,
@@ -79,6 +80,7 @@ fn plain_labels(alloc: Global, entries: &[(&[u8], u32)]) -> Result<Vec<bool>, Fa
 }
 
 /// Returns the written forms of the labels of the first `MOST_SPELLED` entries, or of all entries if there are fewer.
+/// For a label of more than 28 bytes, the item stores no bytes.
 fn spelled_labels(alloc: Global, entries: &[(&[u8], u32)]) -> Result<Vec<Spelled>, Fault>
     ensures ok { IfOk result (λ spellings. AreSpelled (texts entries.now) spellings.items) }
     ensures err { IfErr result (λ fault. fault ≡ Memory) }

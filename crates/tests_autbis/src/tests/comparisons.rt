@@ -340,8 +340,8 @@ fn leaves_second(alloc: Global) -> bool {
     answer.is_err() && starts_with(&mut other, IN_ORDER)
 }
 
-/// Reads bytes from the source (the object from which the input is read). Returns true if the source has not failed,
-/// and these bytes are a prefix of the text.
+/// Reads from the source (the object from which the input is read). Returns true if the source had not failed before,
+/// and it returns eight bytes that are a prefix of the text.
 fn starts_with(source: &mut SliceSource, text: &[u8]) -> bool {
     let mut piece = [0u8; 8];
     source.failures() == 0 && source.take(&mut piece).unwrap_or(0) == 8 && text.starts_with(&piece)

@@ -8,7 +8,8 @@ use std::test::Fail;
 use test_support::{Counted, STEP, check};
 
 /// Writes the system to a sink (the object to which the output is written) that fails after `count` bytes. Returns true
-/// if the sink gets the first `count` bytes of the output, and `write` returns the error `Device`.
+/// if the sink gets the first `count` bytes of the output, and `write` makes exactly one visit (counted read of a
+/// transition) and returns the error `Device`.
 fn fails_at(alloc: Global, s: &Lts<Counter>, count: usize, most: usize) -> bool {
     let mut sink = VecSink::new(alloc, Some(count)).pieces(most.max(1));
     let (answer, visits) = answer(alloc, s, &mut sink);
