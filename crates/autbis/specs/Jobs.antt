@@ -91,7 +91,9 @@ abbrev pub IsGivenUp : {F : Type 0} → FilesUsed F → List Name → (hide : Op
 IsGivenUp files names hide status = IsRefused files names status
     ⊎ (HasAll files names × HideListFails files hide status)
 
--- `NoTextFailed` holds if standard input has not failed, and no file had failed when it was closed.
+-- `NoTextFailed` holds if standard input has not failed, and a call on an opener (an object that opens files by their
+-- names) has not changed the value `lost` of the opener. This value is 1 if a file had failed when it was closed, and
+-- otherwise 0.
 abbrev pub NoTextFailed : {F In : Type 0} → FilesUsed F → Used In → Type 0
 NoTextFailed files input = (input.failures ≡ 0) × HasLostNone files
 

@@ -65,7 +65,8 @@ pub record AreOpened {File : Type 0} (rest : File → Option (List ℕ)) (failur
   pub sound : HaveNotFailed failures texts
 
 -- `IsOpened` holds under four conditions. First, all files of a job (the task that the command line asks for) were
--- opened. Second, no file had failed when it was closed. Third, the input files are open, and none of them has failed.
+-- opened. Second, the value `lost` of the opener (an object that opens files by their names) has not changed. This
+-- value is 1 if a file had failed when it was closed. Third, the input files are open, and none of them has failed.
 -- Fourth, the labels of the hide list, which is a file with the labels to hide, were read.
 pub record IsOpened {F File : Type 0} (rest : File → Option (List ℕ)) (failures : File → ℕ)
     (files : FilesUsed F) (job : Job) (opened : Opened File) : Type 0 where

@@ -45,7 +45,7 @@ BeginsTooLong bytes =
 -- `CutsLine bytes now` holds if the line splitter has split off the first line of the list `bytes`, and `now` is its
 -- state after this. The line is `now.line`, and it must have at most 8192 bytes (`LONGEST_LINE`). There are two cases.
 -- In the first case, a line feed follows the line, and `now.ahead` has the bytes after this line feed. In the second
--- case, the input has ended, and the list `bytes` is this line, which is not empty.
+-- case, the input has ended, the list `bytes` is this line, which is not empty, and `now.ahead` is empty.
 pub record CutsLine (bytes : List ℕ) (now : Cutting) : Type 0 where
   pub one : IsOneLine now.line
   pub short : IsShort now.line
@@ -84,7 +84,7 @@ with_line_feeds lines = flat_map (λ line. line ++ 10 ∷ []) lines
 -- the list `lines`. There are two cases. In the first case, the line splitter has not reached the end of the input
 -- (`at.over`). Then `given` consists of the lines, each followed by a line feed, and of the bytes that are not yet
 -- divided into lines (`at.ahead`). In the second case, the line splitter has reached the end of the input. Then `lines`
--- are all lines of `given`.
+-- are all lines of `given`, and `at.ahead` is empty.
 abbrev pub HasCut : List ℕ → List (List ℕ) → Cutting → Type 0
 HasCut given lines at =
     ((at.over ≡ false) × (given ≡ with_line_feeds lines ++ at.ahead) × All IsOneLine lines)

@@ -12,7 +12,8 @@ use Rattle.autfmt.specs.Held.{Holds}
 
 -- `ReadSoFar bounds given at p es` holds under two conditions. First, the line splitter (`Cutter`) in the state `at`
 -- has divided the bytes `given` into lines. Second, these lines are a correct header within the limits `bounds`, and
--- then one line for each transition in the list es. The record p has the numbers that the header declares.
+-- then one line for each transition in the list es. The source and the target of each of these transitions are less
+-- than the number of states that the header declares. The record p has the numbers that the header declares.
 pub record ReadSoFar (bounds : Bounds) (given : List ℕ) (at : Cutting) (p : Promise) (es : List Transition) :
     Type 0 where
   pub header : List ℕ
