@@ -83,9 +83,9 @@ AreBuckets-push heads entries new b is few in' low at_b head =
     }
 
 -- The loop of the function `chain` puts each entry into the chain of its bucket, which links all entries in this
--- bucket. `Rechained` is the invariant of this loop, and holds under two conditions. First, the entries with IDs
--- greater than 0 and less than r are in the chains of their buckets. Second, each entry has the same tag (hash) as
--- before the loop.
+-- bucket. `Rechained` is the invariant of this loop, and holds under three conditions. First, r is greater than 0, and
+-- the entries with IDs greater than 0 and less than r are in the chains of their buckets. Second, there are as many
+-- buckets and entries as before the loop. Third, each entry has the same tag (hash) as before the loop.
 pub record Rechained (old : List Entry) (buckets r : ℕ) (heads : List ℕ) (entries : List Entry) : Type 0 where
   pub some : 0 < r
   pub as_many : length heads ≡ buckets
@@ -94,8 +94,8 @@ pub record Rechained (old : List Entry) (buckets r : ℕ) (heads : List ℕ) (en
   pub chained : AreChained r entries heads
 
 -- The loop of the function `empty_each` empties the bucket of each entry. `Emptied` is the invariant of this loop, and
--- holds under two conditions. First, each bucket that had a last ID less than r before the loop is empty. Second, the
--- buckets that are not empty have not changed.
+-- holds under three conditions. First, each bucket that had a last ID less than r before the loop is empty. Second, the
+-- buckets that are not empty have not changed. Third, the number of buckets has not changed.
 pub record Emptied (old : List ℕ) (r : ℕ) (heads : List ℕ) : Type 0 where
   pub as_many : length heads ≡ length old
   pub left : (b : ℕ) → b < length old → 0 < get_or heads b 0 →

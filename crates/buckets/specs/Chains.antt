@@ -43,7 +43,8 @@ abbrev pub AreChained : ℕ → List Entry → List ℕ → Type 0
 AreChained count entries heads = IsChained count (entry_bucket entries heads) (λ r. (entry_at entries r).before) heads
 
 -- `AreBuckets` holds if the hash table is correct: a search by tag finds every entry except the entry with the ID 0. A
--- tag is a hash of 32 bits. The entry with the ID 0 must be in no bucket, and must have the tag 0.
+-- tag is a hash of 32 bits. The entry with the ID 0 must be in no bucket, and must have the tag 0. There must be from 1
+-- to 2^32 - 1 buckets, and from 1 to 2^32 - 1 entries (`MOST_ENTRIES`).
 pub record AreBuckets (heads : List ℕ) (entries : List Entry) : Type 0 where
   pub some_buckets : 0 < length heads
   pub few_buckets : length heads < 2 ^ 32

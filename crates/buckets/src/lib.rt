@@ -1,7 +1,8 @@
 //! This crate implements hash tables. Each entry of a table has an ID and a tag, which is a hash. For each tag,
 //! `Buckets` returns the IDs of all entries with this tag one by one, in descending order. The tables store no keys. So
-//! a caller that searches for a key has to compare this key with the key of each returned ID. `Buckets::new`,
-//! `make_room` and `widen` fail only if there is no memory for the entries or the buckets.
+//! a caller that searches for a key has to compare this key with the key of each returned ID. `Buckets::new` and
+//! `widen` fail only if there is no memory for the entries or the buckets. `make_room` also fails if all IDs are in
+//! use.
 #![tactic(auto)]
 
 mod chains;

@@ -331,7 +331,8 @@ AreHandled u signatures w =
     IsToBeRead w p k ⊎ IsHandled u signatures w p (place_at u.l.places k)
 
 -- `SearchInvariant` is the invariant of the depth-first search. It holds before and after each move of the search. In a
--- move, the search processes a transition, or goes back from a state whose outgoing transitions were all read.
+-- move, the search processes a transition of a state on the stack, or goes back from a state whose outgoing transitions
+-- were all read.
 pub record SearchInvariant (u : Under) (signatures : List (List (ℕ × ℕ))) (w : Search) : Type 0 where
   pub sizes : HasVisitStates u.l.states (length signatures) (length w.stack) w.stages
   pub opened : AreOpen w.stages w.stack

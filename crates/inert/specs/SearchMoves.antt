@@ -83,7 +83,8 @@ pub record AreCollected (items : List Item) (signature_ids : List ℕ) (pairs : 
 -- An item is a pair (label ID, block) or a signature ID. A signature ID represents all pairs of the signature with this
 -- ID. Let `before` be the table of interned signatures at first, and `after` the table later. `IsUnionOfItems` holds
 -- under two conditions. First, each signature of the table `before` has the same ID in the table `after`. Second, the
--- signature with the ID k in the table `after` has exactly the pairs that the items in the list `items` represent.
+-- signature with the ID k in the table `after` has exactly the pairs that the items in the list `items` represent, in
+-- ascending order.
 pub record IsUnionOfItems (items : List Item) (before after : List (List (ℕ × ℕ))) (k : ℕ) : Type 0 where
   pub within : k < length after
   pub grow : Grow before after
@@ -104,8 +105,8 @@ pub record Finishes (stack : List ℕ) (f id : ℕ) (old new : List VisitState) 
 -- before it completes the component at the top of the stack, and the data `new` afterwards. The first state of this
 -- component is `root`. The field `id` is the ID of a signature with exactly the pairs that the items of the component
 -- represent. The states of the component are completed with this signature ID, and are removed from the stack. The
--- items of the component are removed from the list of items. If the search came to the component from a state of
--- another component, that other component collects `id` as an item.
+-- items of the component are removed from the list of items, and its root is removed from the list of roots. If the
+-- search came to the component from a state of another component, that other component collects `id` as an item.
 pub record Closes (root : Root) (before after : List (List (ℕ × ℕ))) (old new : Search) : Type 0 where
   pub id : ℕ
   pub listed : IsUnionOfItems (drop root.items old.items) before after id

@@ -26,7 +26,7 @@ pub(crate) enum VisitState {
     /// The state is on the stack, and the field is its index on the stack (its height).
     OnStack(u32),
     /// The state is completed, and the field is the ID of its cached signature. This ID is correct, unless the state
-    /// was completed in an earlier round and all states of its block are completed. In that case the ID can be out of
+    /// was completed before this round and all states of its block are completed. In that case the ID can be out of
     /// date.
     Completed(u32),
 }
@@ -211,7 +211,8 @@ impl DepthFirstSearch {
     /// there are three cases for the status of its target. An unvisited target is pushed on the stack as a component of
     /// its own. If the target is on the stack, the component of the target and all components above it are merged. If
     /// the target is completed, the component of the current state collects the signature ID of the target. Returns
-    /// whether a state was pushed.
+    /// whether a state was pushed. The function `begin` also calls this function while the stack is empty. The items
+    /// then belong to the state at which the search begins.
     #[inline(always)]
     pub fn handle_step<M: Meter>(&mut self, lens: &Lens<M>, step: Step) -> Result<bool, Memory>
         requires state { (t : ℕ) → step ≡ Inert t → t < lens.now.l.states }

@@ -22,7 +22,7 @@
 //!
 //! When all outgoing transitions of a state were read, the frame of this state is popped. If the state is the root of a
 //! component, the component is completed: its items become the signature of all its states, and this signature is
-//! interned. The ID of the signature becomes an item of the component from which the search came.
+//! interned. The ID of the signature becomes an item of the component from which the search came, if there is one.
 //!
 //! For example, a search can be in the following state:
 //!
@@ -34,8 +34,9 @@
 //!   the pairs (b, 1) and (a, 0).
 //!
 //! A search starts with an empty stack and without frames. It pushes its first state only when it reads an inert
-//! transition to an unvisited state. Most searches read the transitions of only one state. For example, in ten rounds
-//! over a system of nine buffers, the searches process 196,830 states and push 521 of them.
+//! transition to an unvisited state. Until then, it collects the items of this first state. Most searches read the
+//! transitions of only one state. For example, in ten rounds over a system of nine buffers, the searches process
+//! 196,830 states and push 521 of them.
 //!
 //! Between rounds all states are completed, and each state has the ID of its cached signature. At its beginning, a
 //! round marks its active states, which are the states that it processes, as unvisited (`mark_unvisited`). Suppose that

@@ -16,8 +16,8 @@ use lts::{Memory, Meter};
 use signatures::Interner;
 
 impl DepthFirstSearch {
-    /// Runs the search from the unvisited state `s`. Afterwards `s` and all states that are reachable from `s` by inert
-    /// transitions are completed.
+    /// Runs the search from the unvisited state `s`. Afterwards `s` and all states that the search has reached from `s`
+    /// are completed.
     pub fn finish<M: Meter>(
         &mut self,
         lens: &Lens<M>,
@@ -149,7 +149,9 @@ impl DepthFirstSearch {
 
     /// Completes the component at the top of the stack. A component is a strongly connected set of states on the stack,
     /// and the argument `root` is the first state of this component. The function interns the signature of the
-    /// component, marks the states of the component as completed, and removes these states from the stack.
+    /// component, marks the states of the component as completed, and removes these states from the stack. If the
+    /// search came to the component from another component, that other component collects the ID of the signature as an
+    /// item.
     fn close(&mut self, root: Root, signatures: &mut Interner) -> Result<(), Memory>
         requires open { AreOpen self.old.stages self.old.stack }
         requires height { root.height ≤ length self.old.stack }

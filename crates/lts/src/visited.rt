@@ -114,7 +114,7 @@ impl Visited {
     }
 
     /// Returns the label ID and the target of the transition at the place (index) `k`, as `Lts::edge` does. The meter
-    /// `m` counts this read as one visit, unless the transition was visited before in this round.
+    /// `m` counts this read as one visit, unless `k` is in the set. The call does not add `k` to the set.
     #[inline(always)]
     pub fn edge<M: Meter>(&self, l: &Lts<M>, k: u32, m: &mut M) -> (u32, u32)
         requires place { k < length l.now.places }

@@ -52,7 +52,8 @@ live_rising xs states rises below =
 -- The active states are the states that a round processes. The loop of `without_singletons` goes through the active
 -- states, and copies some of them to the list `left`. `LeftUpTo` is the invariant of this loop after the first i active
 -- states. Each state in `left` is one of these i states. Each of these i states that is not in `left` is the only state
--- of its block, and has the empty signature. The list `left` is in strictly ascending order.
+-- of its block, and has the empty signature. The list `left` is in strictly ascending order. Each signature ID is the
+-- same as before the loop, or is 0 (`AreSameOrNone`).
 pub record LeftUpTo (of active : List ℕ) (i : ℕ) (old signature_ids left : List ℕ) : Type 0 where
   pub looks : AreActive (length of) active
   pub ascending : (states : ℕ) → ((j : ℕ) → j < i → slice_index active j < states) → AreActive states left

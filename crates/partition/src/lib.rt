@@ -35,7 +35,7 @@
 //! * After `with_positions` is called, the position of each state in `states` is stored (`position`), and rounds
 //!   usually process few states. First, the states whose signature is not empty are moved to the beginning of the span
 //!   of their block (`gather`). Then only the moved states are sorted (`split_affected`). All other states of the block
-//!   have the empty signature. They form one part of the block, and are not moved. So the time for a split depends on
+//!   have the empty signature. They form one part of the block, and are not sorted. So the time for a split depends on
 //!   the number of active states, which are the states that the round processes (Valmari and Lehtinen 2008).
 //!
 //! Between two splits, each span contains exactly the states of its block, and the spans are disjoint and cover

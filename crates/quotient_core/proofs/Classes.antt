@@ -52,8 +52,9 @@ Other rel A s m = IsLeader rel A m × (m < s) × (m ≢ A.first)
 
 -- `Laws` collects the assumptions of the proofs below. The first assumption (`same`) is that two states share a block
 -- if and only if they are bisimilar. The assumptions `number` and `classes` say how the quotient numbers its classes.
--- The last four assumptions say how many leaders are less than a given state. The leader of the class of the first
--- state is the first state. The leader of any other class is the smallest reachable state of this class.
+-- The last four assumptions are about the number of leaders that are less than a given state and differ from the first
+-- state (`Other`). The leader of the class of the first state is the first state. The leader of any other class is the
+-- smallest reachable state of this class.
 pub record Laws (rel : Relation) (A : System) (block : ℕ → ℕ) : Type 0 where
   pub same : EachTwo A (λ s t. (block s ≡ block t) ↔ Bisimilar rel A s A t)
   pub system : IsSystem A
@@ -78,7 +79,9 @@ number_at block n t = slice_index n.by_block.items (block t)
 -- the number of the quotient state that represents it. The class number of a block is the number of the quotient state
 -- that represents the reachable states of the block. The invariant holds after all states less than s have been given
 -- their class numbers. It says that the class number of each reachable state less than s is the class number of its
--- block. In the list of classes, the entry at the index of this class number is the ID of this block.
+-- block. In the list of classes, the entry at the index of this class number is the ID of this block. The block of the
+-- first state has the class number 0. The number of classes is 1 plus the number of leaders that are less than s and
+-- differ from the first state. If the first state is less than s, there are at most s classes.
 pub record Taken (rel : Relation) (A : System) (block : ℕ → ℕ) (s : ℕ) (n : Numbers) : Type 0 where
   pub numbers_long : length n.numbers.items ≡ s
   pub first : number_at block n A.first ≡ 0
@@ -111,8 +114,8 @@ module _ (rel : Relation) (A : System) (block : ℕ → ℕ) (laws : Laws rel A 
     abbrev count : ℕ
     count = length old.classes.items
 
-    -- The following lemmas assume that s is the first reachable state of its block. The block then gets the next class
-    -- number, which is the number of a new state of the quotient.
+    -- The following lemmas assume that s is reachable, and that its block has no class number yet. The block then gets
+    -- the next class number, which is the number of a new state of the quotient.
     module _ (marked : IsTrue reached) (none : number_at block old s ≡ NONE) where
       way : Reachable A s
       way = is_reached.0 marked
@@ -135,9 +138,10 @@ module _ (rel : Relation) (A : System) (block : ℕ → ℕ) (laws : Laws rel A 
           let own = (share s s way way).0 refl in
           inr (λ b. apart (sym ((share s A.first way ([], refl)).1 b)), ((way, own), least))
 
-    -- Suppose that the block of the state s already has a class number, which is the number of a quotient state. Then s
-    -- is not the leader of its class, unless s is the first state of the system. The leader of the class of the first
-    -- state is the first state. The leader of any other class is the smallest reachable state of this class.
+    -- Suppose that the state s is not reachable, or that its block already has a class number, which is the number of a
+    -- quotient state. Then s is not the leader of its class, unless s is the first state of the system. The leader of
+    -- the class of the first state is the first state. The leader of any other class is the smallest reachable state of
+    -- this class.
     not_other : (IsTrue reached → number_at block old s ≢ NONE) → ¬ (IsLeader rel A s × (s ≢ A.first))
     not_other joins (lead, other) =
         let own : Reachable A s × Leader rel A s s = is_leader_itself rel A laws.system s lead in

@@ -127,7 +127,8 @@ module _ {rel : Relation} {g : Grouped} {n : Numbering} {dropped : Option ℕ} (
 
     -- If a transition leads from u to v, its quotient transition leads from the quotient state that represents u to the
     -- quotient state that represents v. Let the list `es` have exactly the quotient transitions of all reachable
-    -- states, except those that the quotient leaves out. Then the system that is built from `es` is the quotient.
+    -- states, except those that the quotient leaves out. Suppose that the triples in `es` are pairwise different. Then
+    -- the system that is built from `es` is the quotient.
     pub built : (q : Grouped) → IsBuilt 0 (length n.classes.items) g.labels es q → Quotient rel A (system_of q)
     built q made =
         let moved = IsPermutation-sym _ _ (IsPermutation-map (transition_of g.labels) es q.places made.grouping.same) in

@@ -100,7 +100,7 @@ module _ {rows : Numbered} where
       cases s h = grind (arith, parts s)
 
   -- A quotient transition is a transition between quotient states. The list `shown_by rows s` has exactly the quotient
-  -- transitions of the state s, and no quotient transitions of other states.
+  -- transitions of the state s.
   pub shown_row : (s : ℕ) → HasShown rows (λ t. eqb t s) (shown_by rows s)
   shown_row s = record {
     exactly = λ x. (

@@ -54,9 +54,9 @@ pub record IsNumbering (rel : Relation) (A : System) (n : Numbering) : Type 0 wh
 
 -- A loop goes through the states in ascending order and gives them class numbers. The class number of a reachable state
 -- is the number of the quotient state that represents it. `TakesState` holds if the loop has the data `old` before it
--- processes the next state, which is in the block b, and the data `new` afterwards. If this state is the first
--- reachable state of its block, the block gets the next class number. In any case, the state gets the class number that
--- the table `by_block` of `new` has for its block.
+-- processes the next state, which is in the block b, and the data `new` afterwards. If this state is reachable and its
+-- block has no class number yet, the block gets the next class number. In any case, the state gets the class number
+-- that the table `by_block` of `new` has for its block.
 pub record TakesState (b : ℕ) (reached : Bool) (old new : Numbers) : Type 0 where
   pub numbers : new.numbers.items ≡ old.numbers.items ++ slice_index new.by_block.items b ∷ []
   pub classes :

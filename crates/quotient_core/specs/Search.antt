@@ -26,10 +26,10 @@ pub record MarksState (s next : ℕ) (old new : Search) : Type 0 where
       ≡ old.queue.items ++ cond (nat_lt s next && not (slice_index_or old.marked.items s false)) (s ∷ []) []
 
 -- `Searches` is the invariant of the search for the reachable states. The search scans the states in ascending order,
--- and has passed the states that are less than `next`. The invariant has four conditions. First, the first state of the
--- system is marked. Second, each marked state is reachable. Third, each state in the queue `waiting` is marked. Fourth,
--- consider a marked state that the scan has passed and that is not in the queue. All targets of the transitions of this
--- state are marked.
+-- and has passed the states that are less than `next`. The list `marked` has a mark for each state. The invariant has
+-- four conditions. First, the first state of the system is marked. Second, each marked state is reachable. Third, each
+-- state in the queue `waiting` is marked. Fourth, consider a marked state that the scan has passed and that is not in
+-- the queue. All targets of the transitions of this state are marked.
 pub record Searches (g : Grouped) (marked : List Bool) (next : ℕ) (waiting : List ℕ) : Type 0 where
   pub size : length marked ≡ g.states
   pub first : IsMarked marked g.first
@@ -45,10 +45,10 @@ abbrev pub places_ahead : List Triple → ℕ → List Bool → List ℕ → ℕ
 places_ahead places next marked waiting =
     length (filter (λ e. is_ahead next marked (source_of e)) places) + sum_by (λ s. length (row_of s places)) waiting
 
--- `ReadsOnce` holds under three conditions. First, the invariant of the search for the reachable states holds
--- (`Searches`). Second, no round has begun. Third, the number of visits (counted reads of transitions) that the search
--- has made is at most the number of all transitions minus the number of transitions that it may still read
--- (`places_ahead`).
+-- `ReadsOnce` holds under four conditions. First, the invariant of the search for the reachable states holds
+-- (`Searches`). Second, the number of transitions that the search may still read (`places_ahead`) is at most the number
+-- of all transitions. Third, the search has begun no round. Fourth, the number of visits (counted reads of transitions)
+-- that the search has made is at most the difference of these two numbers.
 pub record ReadsOnce (g : Grouped) (marked : List Bool) (next : ℕ) (waiting : List ℕ) (old new : Counts) : Type 0 where
   pub search : Searches g marked next waiting
   pub few : places_ahead g.places next marked waiting ≤ length g.places

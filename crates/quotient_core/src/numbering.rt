@@ -78,9 +78,9 @@ pub fn number<M: Meter>(
 }
 
 impl Numbers {
-    /// Processes the next state of the loop, which is in the block `b`. If this state is the first reachable state of
-    /// its block, the block gets the next class number. The state then gets the class number of its block. A class
-    /// number is the number of a quotient state.
+    /// Processes the next state of the loop, which is in the block `b`. If this state is reachable and its block has no
+    /// class number yet, the block gets the next class number. The state then gets the class number of its block. A
+    /// class number is the number of a quotient state.
     fn add(&mut self, b: u32, is_reached: bool) -> Result<(), Memory>
         requires block { b < length self.old.by_block.items }
         requires room { length self.old.classes.items < NONE }

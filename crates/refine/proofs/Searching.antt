@@ -119,10 +119,10 @@ module _ (u : Under) (s : ℕ) (lts : IsLts u.l) (laws : Laws)
           inert.1 ∙ sym (stays A blocks s x led),
         )
 
-    -- Let `new` be the data of the search after the search has read the transition e. Suppose that the search has
-    -- explored e (`IsExplored`), and that everything that the search had found and explored before is still found and
-    -- explored in `new`. Then `ReadsRow`, the invariant of reading the transitions of a state, holds for `new` with k +
-    -- 1 in place of k.
+    -- Let `new` be the data of the search after the search has read the transition e. Suppose that the invariant of the
+    -- search (`FindsFrom`) holds for `new`. Suppose that the search has explored e (`IsExplored`), and that everything
+    -- that the search had found and explored before is still found and explored in `new`. Then `ReadsRow`, the
+    -- invariant of reading the transitions of a state, holds for `new` with k + 1 in place of k.
     reads : (new : FoundStates) → StartsWith new.states old.states → FindsFrom u s new i
         → ((e' : Triple) → IsExplored u s old e' → IsExplored u s new e') → IsExplored u s new e
         → ReadsRow u s first i start (k + 1) new

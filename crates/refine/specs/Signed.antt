@@ -1,5 +1,5 @@
 -- Defines how the signature of one state is appended to a list, and how many visits (counted reads of transitions) are
--- needed to compute it.
+-- needed at most to compute it.
 use Rattle.std.specs.Prelude.{◌≡◌, ℕ, List, ◌++◌, length}
 use Rattle.theory.specs.declared.relation.Relation.{Relation}
 use Rattle.theory.specs.declared.relation.Relation.TheVariants.{Strong, Branching}

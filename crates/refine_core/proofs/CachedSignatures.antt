@@ -169,7 +169,7 @@ module _ (l : Grouped) (labelled : Labelled l) (sys : IsSystem (system_of l)) (o
 
     -- The split signature of a state is empty if its signature has not changed since the last round, and otherwise it
     -- is the new signature. For each state outside singleton blocks, `signature_ids` has the ID of its split signature.
-    -- The new signatures of all states are cached for the next round (`SignsEach`).
+    -- The new signatures of these states are cached for the next round (`SignsEach`).
     pub branching_signs : SignsEach Branching l old
         (record r { signatures = signatures; cached = cached; signature_ids = signature_ids })
     branching_signs = let keeps = ready.cached refl in record {

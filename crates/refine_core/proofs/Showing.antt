@@ -161,7 +161,8 @@ affected_changed l sys (Some old) of low follows s a t step new same =
 -- The split signature of a state is empty if its signature has not changed since the last round, and otherwise it is
 -- the new signature. Suppose that, for each active state (each state that the round processes), the list
 -- `signature_ids` has the ID of its split signature. Suppose that this list has the ID of the empty signature for each
--- other state. Then the round has computed the signatures correctly (`SignsEach`).
+-- other state. Suppose also that the data of the round was ready for computing signatures (`IsReadyToSign`). Then the
+-- round has computed the signatures correctly (`SignsEach`).
 pub strong_signs : (l : Grouped) (old : Option (List ℕ)) (r : Signed) → IsReadyToSign Strong l old r
     → (signatures : List (List (ℕ × ℕ))) (signature_ids : List ℕ) → list_at signatures 0 ≡ []
     → length signature_ids ≡ l.states → InactiveHaveNone r.blocks.active signature_ids

@@ -1,7 +1,7 @@
--- After the predecessor index was built, a round begins with a search for the states that it has to process. The search
--- goes backwards along transitions. It looks up these transitions in the predecessor index, which has, for each state,
--- the transitions that lead to this state. This file defines which states the search has to find, and what holds while
--- the search is in progress. The place of a transition is its index in the list of all transitions.
+-- After the predecessor index was built, a round usually begins with a search for the states that it has to process.
+-- The search goes backwards along transitions. It looks up these transitions in the predecessor index, which has, for
+-- each state, the transitions that lead to this state. This file defines which states the search has to find, and what
+-- holds while the search is in progress. The place of a transition is its index in the list of all transitions.
 use Rattle.std.specs.Prelude.{◌≡◌, ◌⊎◌, ℕ, ◌+◌, ◌<◌, ◌≤◌, ◌==◌, Bool, true, false, IsTrue, List, length}
 use Rattle.std.specs.Prelude.{slice_index, slice_index_or, Option, None, Some, IfSome}
 use Rattle.std.specs.List.{All, IsDistinct}
@@ -163,8 +163,9 @@ pub record MarksFound (states : ℕ) (at : Affected) : Type 0 where
 -- `SearchIsOn` holds while a search is in progress. The record `at` has the predecessor index, the marks of the states,
 -- and the states that were found so far. The predecessor index must be correct (`IsSearchIndex`), and exactly the found
 -- states must be marked. The list `xs` must have the places (indices) of the transitions that were visited so far. For
--- each of them, the meter must have counted one visit (read of a transition). The record `start` has the counts of the
--- meter when the search began, and `now` has its present counts.
+-- each of them, the meter must have counted one visit (read of a transition). When the search began, the meter must
+-- have had room for one visit of each transition. The record `start` has the counts of the meter when the search began,
+-- and `now` has its present counts.
 pub record SearchIsOn (l : Grouped) (of : List ℕ) (reach : Reach) (start now : Counts) (at : Affected) (xs : List ℕ) :
     Type 0 where
   pub blocks : length of ≡ l.states

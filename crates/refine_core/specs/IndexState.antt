@@ -1,5 +1,5 @@
--- The data of a round (`Signed`) consists of the blocks, the active states, the signatures, and the predecessor index.
--- A round processes only the active states. This file defines what must hold for this data at the beginning of a round,
+-- The data of a round (`Signed`) includes the blocks, the active states, the signatures, and the predecessor index. A
+-- round processes only the active states. This file defines what must hold for this data at the beginning of a round,
 -- when the signatures are computed, and after the split. The definitions make sure that the states that are not active
 -- need not be processed.
 use Rattle.std.specs.Prelude.{◌≡◌, ◌⊎◌, ℕ, ◌<◌, List, [], ◌∷◌, length, slice_index, Option, None, Some}
@@ -61,9 +61,10 @@ RestartsOrSearches (Pending e) rel l old r =
 
 -- `Awaits` holds if r, the data of a round (`Signed`), is ready for a new round. The field `old` has the block IDs in
 -- the last round, or is `None` if no round has run yet. The blocks of r must result from splitting the blocks of the
--- last round (`Follows`). If there is a predecessor index, a search in this index must be pending, or the new round
--- must process all states again (`RestartsOrSearches`). If there is no predecessor index, each state must be active
--- (processed by the round), be in a singleton block, or have no transition (`AreAllActiveOrIndexed`).
+-- last round (`Follows`). If no round has run yet, all blocks must count as new. If there is a predecessor index, it
+-- must be an index of the system `l`. A search in this index must then be pending, or the new round must process all
+-- states again (`RestartsOrSearches`). If there is no predecessor index, each state must be active (processed by the
+-- round), be in a singleton block, or have no transition (`AreAllActiveOrIndexed`).
 pub record Awaits (rel : Relation) (l : Grouped) (r : Signed) : Type 0 where
   pub states : length r.blocks.block_ids ≡ l.states
   pub old : Option (List ℕ)
@@ -73,11 +74,11 @@ pub record Awaits (rel : Relation) (l : Grouped) (r : Signed) : Type 0 where
 
 -- `IsReadyToSign` holds if r, the data of a round (`Signed`), is ready for computing the signatures of the active
 -- states, which are the states that the round processes. The argument `old` has the block IDs in the last round, and
--- the blocks of r must result from splitting these blocks (`WasSplit`). Each state that is neither active nor in a
--- singleton block must have the same signature as in the last round. For branching bisimilarity, the signatures of the
--- last round must be cached. If `old` is `None`, no round has run yet, or all signatures have been discarded since the
--- last round. Then the signature of each state in the last round is taken to be empty. For branching bisimilarity, the
--- cached signature of each state must then be empty, too.
+-- the blocks of r must result from splitting these blocks (`WasSplit`). For strong bisimilarity, they must also satisfy
+-- `Follows`. Each state that is neither active nor in a singleton block must have the same signature as in the last
+-- round. For branching bisimilarity, the signatures of the last round must be cached. If `old` is `None`, no round has
+-- run yet, or all signatures have been discarded since the last round. Then the signature of each state in the last
+-- round is taken to be empty. For branching bisimilarity, the cached signature of each state must then be empty, too.
 pub record IsReadyToSign (rel : Relation) (l : Grouped) (old : Option (List ℕ)) (r : Signed) : Type 0 where
   pub split : WasSplit rel l old r.blocks.block_ids
   pub others : OthersKeepSignatures rel l old r.blocks
@@ -123,7 +124,7 @@ MayBuildIndex l reach p r = (r ≡ p) ⊎ HasBuiltIndex l reach p r
 -- `HasSearched` holds if the round has made a search of the predecessor index that was pending before. The data of the
 -- round is p before the search, and r after the search. The active states of r, which are the states that the round
 -- processes, must include all states that the search has to find (`SearchIsComplete`). The search must not have changed
--- the blocks and the signatures.
+-- the blocks, the interned signatures, and the cached signature IDs.
 pub record HasSearched (l : Grouped) (p r : Signed) : Type 0 where
   pub was : SearchIndex
   pub pending : p.index_state ≡ Pending was
@@ -155,9 +156,9 @@ pub record MayDropSingletons (p r : Signed) : Type 0 where
 -- processes. The split signature of a state is empty if its signature has not changed since the last round, and
 -- otherwise it is the new signature. For each state that is not in a singleton block, `signature_ids` must have the ID
 -- of its split signature (`IsSplitSignature`). For branching bisimilarity, the new signatures must be cached for the
--- next round (`CachesIds`). The argument `old` has the block IDs in the last round. If `old` is `None`, no round has
--- run yet, or all signatures have been discarded since the last round. For each active state, `signature_ids` must then
--- have the ID of its signature.
+-- next round (`CachesIds`). The argument `old` has the block IDs in the last round, and the blocks of r must result
+-- from splitting these blocks (`WasSplit`). If `old` is `None`, no round has run yet, or all signatures have been
+-- discarded since the last round. For each active state, `signature_ids` must then have the ID of its signature.
 pub record SignsEach (rel : Relation) (l : Grouped) (old : Option (List ℕ)) (r : Signed) : Type 0 where
   pub split : WasSplit rel l old r.blocks.block_ids
   pub each : (s : ℕ) → s < l.states → IsSingleton r.blocks.block_ids s
@@ -207,7 +208,8 @@ KeepsIndex l (Pending e) p q = AwaitsSearch e p q ⊎ ActivatesAll l e q
 -- `IsSplitOf` is about a split. The data of the round is p before the split, and q after the split. In p, each state
 -- has the ID of a signature in `signature_ids`. Two states must share a block of q if and only if they share a block of
 -- p and these signatures of the two states are equal. Each new block must have at most half of the states of the old
--- block that it comes from. The split must also satisfy the condition on the predecessor index (`KeepsIndex`).
+-- block that it comes from. The ID of the first new block must be the number of blocks of p. The split must also
+-- satisfy the condition on the predecessor index (`KeepsIndex`).
 pub record IsSplitOf (l : Grouped) (p q : Signed) : Type 0 where
   pub splits : Splits p.blocks.block_ids p.blocks.count (list_of p.signatures p.signature_ids) q.blocks.block_ids
       q.blocks.count

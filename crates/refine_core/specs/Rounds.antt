@@ -13,7 +13,9 @@ use Rattle.refine_core.specs.IndexState.{Awaits}
 
 -- `IsNextRound` holds if q is the data after one round that started with the block IDs `of`. The blocks of q must
 -- result from splitting the blocks of `of` by signatures (`Split`). There were `count` blocks before the round, so a
--- block of q is new if its ID is at least `count`. The data q must be ready for the next round (`Awaits`).
+-- block of q is new if its ID is at least `count`. Each new block must have at most half of the states of the old block
+-- that it comes from. Each state must keep its block ID, or be in a new block. There must be as many blocks as before
+-- if and only if the partition is the same as before. The data q must be ready for the next round (`Awaits`).
 pub record IsNextRound (rel : Relation) (l : Grouped) (of : List ℕ) (count : ℕ) (q : Signed) : Type 0 where
   pub split : Split rel (system_of l) (slice_index of) (slice_index q.blocks.block_ids)
   pub blocks : AreBlocks q.blocks.block_ids q.blocks.count
@@ -43,10 +45,11 @@ pub record RenumbersFew (rel : Relation) (A : System) (blocks : List ℕ) : Type
   pub few : (s : ℕ) → s < A.states → 2 ^ renumberings last past s ≤ A.states
 
 -- `Made` holds if a sequence of rounds has led from the partition that has only one block to the partition `blocks`.
--- Each of these rounds must have split at least one block, and there must be fewer rounds than states. A visit is a
--- counted read of a transition. The number of visits in all these rounds must be the number of the rounds times the
--- number of transitions. The meter had the counts `old` before the first round, and has the counts `at` after the last
--- round.
+-- Each of these rounds must have split at least one block, and there must be fewer rounds than states. In each round,
+-- each state whose block ID changes must move to a block of at most half the size (`WereHalved`). The meter must have
+-- counted each of these rounds. A visit is a counted read of a transition. The number of visits in all these rounds
+-- must be the number of the rounds times the number of transitions. The meter had the counts `old` before the first
+-- round, and has the counts `at` after the last round.
 pub record Made (rel : Relation) (l : Grouped) (old at : Counts) (blocks : List ℕ) : Type 0 where
   pub rounds : ℕ
   pub fewer : rounds < l.states

@@ -47,7 +47,7 @@ Follows rel l None of first_new = first_new ≡ 0
 Follows rel l (Some old) of first_new = IsLastSplit rel l old of first_new
 
 -- `WasSplit` holds if the blocks `of` result from splitting the blocks `old` of the last round by signatures (`Split`).
--- If `old` is `None`, there is no last round, and `WasSplit` holds for any blocks `of`.
+-- If `old` is `None`, `WasSplit` holds for any blocks `of`.
 abbrev pub WasSplit : Relation → Grouped → Option (List ℕ) → List ℕ → Type 0
 WasSplit rel l None of = Unit {0}
 WasSplit rel l (Some old) of = Split rel (system_of l) (slice_index old) (slice_index of)

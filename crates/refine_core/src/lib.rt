@@ -43,8 +43,8 @@
 //! transitions that it has visited (`lts::Visited`). When the round computes the signature of a state after the search,
 //! it reads all transitions of this state. It does not count the reads of transitions that it has already visited. In
 //! the round that builds the index, building the index visits every transition once, so this round makes no further
-//! visit. At the end of each round, `lts::visit_rest` makes visits whose results are ignored, so that the number of
-//! visits in the round equals the number of transitions.
+//! visit. After the signatures are computed, `lts::visit_rest` makes visits whose results are ignored, so that the
+//! number of visits in the round equals the number of transitions.
 //!
 //! *Strong bisimilarity.* Assume that two states share a block, and that no transition of the two states leads to a new
 //! block. Then all transitions of the two states lead to old blocks. A state that is in an old block now was in the

@@ -21,7 +21,8 @@ use std::alloc::Global;
 use std::marker::Model;
 
 /// A block is new if the last split has made it. A round is late if the number of new blocks is less than the number of
-/// all blocks divided by `LATE_ROUND_FRACTION`. The rounds that follow a late round usually have few states to process.
+/// all blocks divided by `LATE_ROUND_FRACTION`, rounded down. The rounds that follow a late round usually have few
+/// states to process.
 const LATE_ROUND_FRACTION: u32 = 4;
 
 /// A round is late if few blocks are new. The method `SignedBlocks::needs_index` defines the work of a late round. The
@@ -42,8 +43,8 @@ const ROW_LENGTH_PER_FULL_ROUND: u32 = 2;
 /// than processing one state.
 const BLOCKS_PER_STATE: u32 = 8;
 
-/// The state of the predecessor index: whether the index was built, and whether it was searched for the states that the
-/// round processes.
+/// The state of the predecessor index: whether the index was built, and whether a search for the states that the next
+/// round processes is pending.
 #[derive(Drop)]
 pub(crate) enum IndexState {
     /// There is no predecessor index yet. The next round processes the same states as this round, except for the states
@@ -75,8 +76,8 @@ pub struct SignedBlocks {
     /// If there is a predecessor index, this is the number of signatures that may be stored after a round. If more
     /// signatures are stored, all signatures are discarded.
     pub(crate) most_signatures: u32,
-    /// The total work of all late rounds so far. A round is late if few blocks are new. All of these rounds were made
-    /// without a predecessor index. The method `needs_index` defines the work of a late round.
+    /// The total work of all late rounds that were made without a predecessor index. A round is late if few blocks are
+    /// new. The method `needs_index` defines the work of a late round.
     late_work: u64,
 }
 
@@ -268,7 +269,8 @@ impl SignedBlocks {
     /// If a search of the predecessor index is pending (`IndexState::Pending`), this function makes the search, which
     /// finds the active states of this round (the states that the round processes). The search starts at the states of
     /// new blocks, which are the blocks that the last split has made. It looks up the transitions that lead to these
-    /// states. Each lookup is a visit (a counted read of a transition).
+    /// states. For branching bisimilarity, it then goes back along inert transitions. Each lookup is a visit (a counted
+    /// read of a transition).
     pub fn find_active<M: Meter>(mut self, l: &Lts<M>, m: &mut M) -> Result<SignedBlocks, Memory>
         requires states { length self.blocks.block_ids ≡ l.now.states }
         requires pending { (e : SearchIndex) → self.index_state ≡ Pending e

@@ -41,8 +41,8 @@ pub trait Signing {
         // Always
         ensures cost { Costs (M.counted m.old) (M.counted m.new) 0 0 (length l.now.places) };
 
-    /// For branching bisimilarity, discards the signatures that are cached from round to round. For strong
-    /// bisimilarity, does nothing, because no strong signature is cached.
+    /// For branching bisimilarity, discards all signatures, including those that are cached from round to round. For
+    /// strong bisimilarity, does nothing, because no strong signature is cached.
     fn discard_cached(round: SignedBlocks) -> Result<SignedBlocks, Memory>
         ensures same { IfOk result (λ r. (r.blocks ≡ round.blocks) × (r.visited ≡ round.visited)) }
         ensures discarded { IfOk result (λ r. relation ≡ branching

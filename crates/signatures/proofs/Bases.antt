@@ -36,7 +36,7 @@ module _ (trie : List (List (ℕ × ℕ))) (extensions : List (ℕ × List (ℕ 
       )
 
 -- This lemma combines the contracts of the steps by which the union of several lists and of some pairs is computed. The
--- result of the last step has exactly the pairs of the union.
+-- base of the result and the extra pairs after the last step together have exactly the pairs of the union.
 pub joined_all : {B G H L M O P R S T : Type 0} → B ↔ R → G ↔ (P ⊎ S) → O ↔ G → (B ⊎ L) ↔ (B ⊎ O) → M ↔ (L ⊎ T)
     → H ↔ (R ⊎ (S ⊎ T)) → (B ⊎ M) ↔ (P ⊎ H)
 joined_all whole gathered ordered lacked merged all = search rules

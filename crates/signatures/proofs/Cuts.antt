@@ -1,9 +1,9 @@
 -- The split point of a list is the number at which the list is divided into two halves (`IsCut`). To compare a pair
 -- with this number, the pair is represented by a number (`pair_value`). The first half has the pairs that are less than
--- the split point, and the second half has all other pairs. A list has at most one split point. Suppose that a range of
--- numbers includes the split point of a list. Among all numbers that are greater than the lower end of the range and at
--- most its upper end, let c be the number that is divisible by the highest power of two (`IsCutPoint`). Then c is the
--- split point of the list, or all pairs of the list are less than c, or all pairs of the list are at least c.
+-- the split point, and the second half has all other pairs. A list has at most one split point. Suppose that the split
+-- point of a list is greater than `low` and at most `high`. Among all numbers that are greater than `low` and at most
+-- `high`, let c be the number that is divisible by the highest power of two (`IsCutPoint`). Then c is the split point
+-- of the list, or all pairs of the list are less than c, or all pairs of the list are at least c.
 use Rattle.std.proofs.Common.{rules, ◌≡◌, ◌∙◌, ℕ, ◌+◌, ◌-◌, ◌*◌, ◌/◌, ◌%◌, ◌^◌, ◌<◌, ◌≤◌, List, Contains, ap, sym, inl}
 use Rattle.std.proofs.Common.{inr, arith}
 use Rattle.std.proofs.Math.Pow.{shr_mono}
@@ -80,10 +80,11 @@ module _ (list : List (ℕ × ℕ)) where
     ];
   }
 
-  -- Each pair is represented by a number (`pair_value`). Suppose that the numbers for all pairs of the list have the
-  -- same bits as the number c at all bit positions above `bit` (`IsAlike`). Suppose also that c is not the split point
-  -- of the list, which is the number at which the list is divided into two halves. Then the numbers for all pairs of
-  -- the list are less than c, or the numbers for all pairs of the list are at least c.
+  -- Each pair is represented by a number (`pair_value`). Suppose that the number c is a multiple of 2^bit, and that the
+  -- numbers for all pairs of the list have the same bits as c at all bit positions above `bit` (`IsAlike`). Suppose
+  -- also that c is not the split point of the list, which is the number at which the list is divided into two halves.
+  -- Then the numbers for all pairs of the list are less than c, or the numbers for all pairs of the list are at least
+  -- c.
   pub all_under : (bit c d : ℕ) → IsAlike bit list c → IsCut list d → d < c → IsUnder list c
   all_under bit c d is own less z in_z =
       let same : c ≤ pair_value z → c ≡ d = λ h. cut_unique c d (search (rules, own.below)) own in

@@ -60,9 +60,10 @@ unites_is_merged list few base rise rise_few rise_base unites =
 pub merged_fit : (xs ys : List (ℕ × ℕ)) → Fit xs → Fit ys → Fit (merged xs ys)
 merged_fit xs ys fit fit' z d = elim ((merged_has z xs ys).0 d) [ inl a ↦ fit z a | inr b ↦ fit' z b ]
 
--- Suppose that two lists are in strictly ascending order, and that the number c divides each of them into two parts.
--- The lower part has the pairs that are less than c, and the upper part has the other pairs. Then the merge of the two
--- lists is the merge of the two lower parts, followed by the merge of the two upper parts.
+-- Suppose that two lists are in strictly ascending order, and that the second component of each of their pairs is less
+-- than 2^32 (`Fit`). Suppose also that the number c divides each of the two lists into two parts. The lower part has
+-- the pairs that are less than c, and the upper part has the other pairs. Then the merge of the two lists is the merge
+-- of the two lower parts, followed by the merge of the two upper parts.
 pub merged_halves : {list few below above below' above' : List (ℕ × ℕ)} {c : ℕ} → IsParted list c below above
     → IsParted few c below' above'
     → IsStrictlySortedBy pair_cmp list → IsStrictlySortedBy pair_cmp few → Fit list → Fit few

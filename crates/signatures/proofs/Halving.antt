@@ -30,11 +30,11 @@ pub record HasEnds (list : List (ℕ × ℕ)) (low high : ℕ) : Type 0 where
   pub after : (z : ℕ × ℕ) × Contains list z × (high ≤ pair_value z)
   pub alike : (bit l h c : ℕ) → IsCutPoint bit l h c → l ≤ low → high ≤ h → IsAlike bit list c
 
--- Each pair is represented by a number (`pair_value`). Let `low` be the number for the first pair of a list that is not
--- empty, and let `high` be the number for its last pair. Then the number for each pair of the list is at least `low`
--- and at most `high`. Among all numbers that are greater than `low` and at most `high`, let c be the number that is
--- divisible by the highest power of two (`IsCutPoint`). Then c is the number at which the list is divided into two
--- halves (`IsCut`).
+-- Each pair is represented by a number (`pair_value`). Suppose that a list is not empty and is in strictly ascending
+-- order, and that the second component of each of its pairs is less than 2^32 (`Fit`). Let `low` be the number for the
+-- first pair of the list, and let `high` be the number for its last pair. Then the number for each pair of the list is
+-- at least `low` and at most `high`, and the list satisfies `HasEnds` with `low` and `high`. If the list has more than
+-- one pair, `low` is less than `high`.
 module _ (list : List (ℕ × ℕ)) (rise : IsStrictlySortedBy pair_cmp list) (fit : Fit list) (some : 0 < length list)
     {low high : ℕ} (low_is : low ≡ pair_value (get_or list 0 (0, 0)))
     (high_is : high ≡ pair_value (get_or list (length list - 1) (0, 0))) where

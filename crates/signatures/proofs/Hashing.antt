@@ -13,8 +13,9 @@ pub tag_is : (lists : List (List (ℕ × ℕ))) {tags : List ℕ} → tags ≡ m
 tag_is lists e k = ap (λ tags. tag_at tags k) e ∙ plain.get_or-map tag_of lists k []
 
 -- A search for `list` goes through the stored lists that have the same tag (a hash of 32 bits) as `list`, in descending
--- order of their IDs. `IsReached` holds for the ID r under two conditions. First, no stored list with an ID greater
--- than r is equal to `list`. Second, r is 0, or the list with the ID r has the same tag as `list`.
+-- order of their IDs. `IsReached` holds for the ID r under three conditions. First, if any lists are stored, r is the
+-- ID of a stored list. Second, no stored list with an ID greater than r is equal to `list`. Third, r is 0, or the list
+-- with the ID r has the same tag as `list`.
 pub record IsReached (lists : List (List (ℕ × ℕ))) (list : List (ℕ × ℕ)) (r : ℕ) : Type 0 where
   pub below : 0 < length lists → r < length lists
   pub above : (q : ℕ) → r < q → q < length lists → list_at lists q ≡ list → ⊥

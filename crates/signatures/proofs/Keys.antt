@@ -1,8 +1,8 @@
--- Each pair is represented by a number (`pair_value`), and the order of the pairs is the order of these numbers.
--- Suppose that a list in ascending order is divided into the pairs that are less than a number and the other pairs.
--- Then both parts are in ascending order. Conversely, suppose that two lists are in ascending order. Suppose also that
--- all pairs of the first list are less than c, and that all pairs of the second list are at least c. Then the first
--- list followed by the second list is in ascending order.
+-- Each pair is represented by a number (`pair_value`). If the second component of each pair is less than 2^32 (`Fit`),
+-- the order of the pairs is the order of these numbers. Suppose that a list in ascending order is divided into the
+-- pairs that are less than a number and the other pairs. Then both parts are in ascending order. Conversely, suppose
+-- that two lists are in ascending order. Suppose also that all pairs of the first list are less than c, and that all
+-- pairs of the second list are at least c. Then the first list followed by the second list is in ascending order.
 use Rattle.std.proofs.Common.{rules, ◌≡◌, ◌↔◌, ◌⊎◌, ℕ, ◌+◌, ◌^◌, ◌<◌, ◌≤◌, List, [], ◌∷◌, ◌++◌, length, get_or, take}
 use Rattle.std.proofs.Common.{drop, true, false, ltb, Contains, Less, inl, inr, arith}
 use Rattle.std.specs.List.Sorted.{IsStrictlySortedBy, IsNonDecreasingBy, IsPartitionPoint}
@@ -28,9 +28,10 @@ halves_has below above z =
     let first = Contains-append_left below above z in
     grind (arith, first, Contains-append_cases below above z, Contains-append_right below above z)
 
--- Each pair is represented by a number (`pair_value`). Suppose that two lists are in strictly ascending order, that all
--- pairs of the first list are less than c, and that all pairs of the second list are at least c. Then the first list
--- followed by the second list is in strictly ascending order.
+-- Each pair is represented by a number (`pair_value`). Suppose that two lists are in strictly ascending order, and that
+-- the second component of each of their pairs is less than 2^32 (`Fit`). Suppose also that all pairs of the first list
+-- are less than c, and that all pairs of the second list are at least c. Then the first list followed by the second
+-- list is in strictly ascending order.
 pub halves_rise : (below above : List (ℕ × ℕ)) (c : ℕ) → IsStrictlySortedBy pair_cmp below
     → IsStrictlySortedBy pair_cmp above → Fit below → Fit above
     → IsUnder below c → IsOver above c → IsStrictlySortedBy pair_cmp (below ++ above)
@@ -43,7 +44,8 @@ halves_rise (x ∷ xs) above c rise_below rise_above fit_below fit_above under o
     (halves_rise xs above c (sorted_tail pair_cmp x xs rise_below) rise_above
     (λ z d. fit_below z (there x xs z d)) fit_above (λ z d. under z (there x xs z d)) over)
 
--- If a list is in strictly ascending order, the numbers that represent its pairs (`pair_value`) are in ascending order.
+-- Suppose that a list is in strictly ascending order, and that the second component of each of its pairs is less than
+-- 2^32 (`Fit`). Then the numbers that represent its pairs (`pair_value`) are in ascending order.
 pub rising_keys : (list : List (ℕ × ℕ)) → IsStrictlySortedBy pair_cmp list → Fit list
     → IsNonDecreasingBy pair_value list
 rising_keys list rise fit i j d low high =

@@ -92,9 +92,9 @@ first_is : (trie : List (List (ℕ × ℕ))) (extensions : List (ℕ × List (�
     → list_at trie 0 ≡ [] → list_at (extended_lists trie extensions) 0 ≡ []
 first_is trie extensions are none = search (rules, get_or-map, are.first, merged_nil, none)
 
--- Suppose that a list is not empty and is not in the table yet. If this list is appended to the table, and its tag (a
--- hash of 32 bits) is appended to the tags, all lists of the table are stored correctly (`AreExtended`). In particular,
--- no two of these lists are equal.
+-- Suppose that the list with the ID 0 in the trie is empty. Suppose also that a list is not empty and is not in the
+-- table yet. If this list is appended to the table, and its tag (a hash of 32 bits) is appended to the tags, all lists
+-- of the table are stored correctly (`AreExtended`). In particular, no two of these lists are equal.
 module _ (trie : List (List (ℕ × ℕ))) (extensions : List (ℕ × List (ℕ × ℕ))) (tags : List ℕ) (x : ℕ × List (ℕ × ℕ))
     (tag : ℕ)
     (are : AreExtended trie extensions tags) where
@@ -115,8 +115,9 @@ module _ (trie : List (List (ℕ × ℕ))) (extensions : List (ℕ × List (ℕ 
       }
 
 -- The table stores lists, and the trie stores the parts that several of these lists can share. Suppose that the table
--- and the trie fit together (`AreExtended`), and that the lists of the trie are stored correctly (`AreStored`). Then no
--- two lists of the table are equal, and each list of the table is in strictly ascending order (`AreLists`).
+-- and the trie fit together (`AreExtended`), and that the lists of the trie are stored correctly (`AreStored`). Suppose
+-- also that the table has at most 2^32 - 1 lists (`MOST_LISTS`). Then no two lists of the table are equal, and each
+-- list of the table is in strictly ascending order (`AreLists`).
 pub AreLists-extended : {trie : List (List (ℕ × ℕ))} {extensions : List (ℕ × List (ℕ × ℕ))} {tags : List ℕ}
     → AreStored trie
     → AreExtended trie extensions tags → length tags ≤ MOST_LISTS → AreLists (extended_lists trie extensions)

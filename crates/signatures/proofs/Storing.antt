@@ -166,7 +166,8 @@ IsNext pairs new (Cut h) node = (new ≡ pairs) × (node ≡ Halved h)
 
 -- A `Shape` describes a list by the pairs of the list, or by the IDs of its two halves. Suppose that this list is
 -- stored by appending a node (`IsNext`). Then the list of this node is the last of the stored lists, all other stored
--- lists stay the same, and all lists are stored correctly (`AreNodes`).
+-- lists stay the same, and all lists are stored correctly (`AreNodes`). The last statement also requires that there are
+-- fewer than 2^32 - 1 nodes (`MOST_LISTS`) before the node is appended, and that the list can be appended (`Suits`).
 module _ (pairs new : List (ℕ × ℕ)) (nodes : List Node) (node : Node) (are : AreNodes pairs nodes) where
   abbrev lists : List (List (ℕ × ℕ))
   lists = lists_of_nodes pairs nodes

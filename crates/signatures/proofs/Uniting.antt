@@ -94,8 +94,9 @@ module _ {xs ys below above below' above' : List (ℕ × ℕ)} {c : ℕ} (first 
 
   -- Let c be the split point of the union of the lists xs and ys, which is the number at which the union is divided
   -- into two halves. Then c divides each of xs and ys into a lower part, which has the pairs less than c, and an upper
-  -- part, which has the other pairs. Suppose that ys has more than 64 pairs (`MOST_WHOLE`). Then the first half of the
-  -- union is the union of the two lower parts, and the second half of the union is the union of the two upper parts.
+  -- part, which has the other pairs. Suppose that ys is in strictly ascending order and has more than 64 pairs
+  -- (`MOST_WHOLE`). Then the first half of the union is the union of the two lower parts, and the second half of the
+  -- union is the union of the two upper parts.
   pub AreUnited-parts : {mid new : List (List (ℕ × ℕ))} {b a : ℕ} → Grow mid new
       → b < length mid → Unites (list_at mid b) below below' → a < length new → Unites (list_at new a) above above'
       → IsStrictlySortedBy pair_cmp ys → MOST_WHOLE < length ys

@@ -70,8 +70,8 @@ extended_lists trie extensions = map (extended trie) extensions
 
 -- `AreExtended` holds for the lists that are stored in `extensions` under four conditions. First, each of these lists
 -- is stored as a list of the trie, called the base, and as extra pairs in ascending order, which the base lacks
--- (`IsExtension`). Second, no two of the stored lists are equal. Third, the list with the ID 0 is empty. Fourth, `tags`
--- has the tag of each stored list, which is a hash of 32 bits.
+-- (`IsExtension`). Second, no two of the stored lists are equal. Third, there is a list with the ID 0, whose base has
+-- the ID 0 and which has no extra pairs. Fourth, `tags` has the tag of each stored list, which is a hash of 32 bits.
 pub record AreExtended (trie : List (List (ℕ × ℕ))) (extensions : List (ℕ × List (ℕ × ℕ))) (tags : List ℕ) : Type 0
   where
     pub each : All (IsExtension trie) extensions

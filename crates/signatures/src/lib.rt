@@ -20,7 +20,7 @@
 //! * `union_cache` stores the IDs of unions that were computed before.
 //! * `nodes` stores each list of the trie, either as a range of pairs or as the IDs of its two halves.
 //! * `cut` computes the number at which a list is divided into two halves, and `hashes` computes hashes of lists.
-//! * `sorted_lists` sorts pairs, and `sort_by_marks` sorts pairs by marks (bits) if there are many pairs.
+//! * `sort_by_marks` sorts pairs by marks (bits) if there are many pairs, and `sorted_lists` sorts pairs.
 //!
 //! A long list is divided into two halves at a number, which is called the split point of the list. To compare a pair
 //! with the split point, the pair is represented by a number. Among all numbers that are greater than the first pair
@@ -28,7 +28,8 @@
 //! halves depend only on the pairs of the list. If two lists differ in only a few pairs, they have most of their halves
 //! in common.
 //!
-//! A call that returns a `Result` fails only if an allocation fails. The error is then `Memory`.
+//! A call that returns a `Result` fails only if an allocation fails, or if all IDs are in use (`MOST_LISTS`). The error
+//! is then `Memory`.
 #![tactic(auto)]
 
 mod cut;

@@ -80,9 +80,9 @@ fn base_of(bases: &mut Bases, extensions: &Extensions, ids: &[u32]) -> Result<u3
 
 /// Returns whether the base of a list, which is the part that several lists can share, is also the base of a union that
 /// is computed. The argument `base` is the ID of the base of the list. The argument `own` is the ID of the base of the
-/// union, or `None` if more than 16 lists are united (`MOST_MERGED_LISTS`). If the result is true, the extra pairs of
-/// the list, which its base lacks, are merged into the union. Otherwise, these extra pairs are sorted together with all
-/// other pairs.
+/// union, or `None` if more than 16 lists are united (`MOST_MERGED_LISTS`). If `own` is `None`, the result is false. If
+/// the result is true, the extra pairs of the list, which its base lacks, are merged into the union. Otherwise, these
+/// extra pairs are sorted together with all other pairs.
 #[inline(always)]
 fn is_own(own: Option<u32>, base: u32) -> bool
     ensures { IsTrue result ↔ (own ≡ Some base) }

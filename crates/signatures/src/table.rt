@@ -77,8 +77,9 @@ impl Table {
         Ok(id)
     }
 
-    /// Returns the ID of the stored list that is equal to `list`, or `None` if there is no such list. The argument
-    /// `tag` is the tag (a hash of 32 bits) of `list`.
+    /// Returns the ID of the stored list that is equal to `list`, or `None` if there is no such list. The search leaves
+    /// out the list with the ID 0, which is the empty list. The argument `tag` is the tag (a hash of 32 bits) of
+    /// `list`.
     fn find(&self, bases: &mut Bases, list: Extension<'_>, tag: u32) -> Result<Option<u32>, Memory>
         requires extensions { AreExtended bases.old.trie self.now.extensions self.now.buckets.tags }
         requires list { IsExtension bases.old.trie (parts_of list) }

@@ -108,7 +108,8 @@ pub(crate) fn list_of(trie: &mut Trie, pairs: &[(u32, u32)]) -> Result<u32, Memo
 /// `cut`, and the second part has the pairs that are at least `cut`. The argument `halves` has the IDs of the two
 /// halves of the list, and the split point of the list, which is the number at which the list is divided into these
 /// halves. If `cut` is the split point, the two parts are the two halves. Otherwise, one part is the whole list, and
-/// the other part is the empty list.
+/// the other part is the empty list. This is correct only if `cut` is a multiple of some power of two, 2^bit, and if
+/// all pairs of the list have the same bits as `cut` above the position `bit` (`IsAlike`).
 fn split(k: u32, halves: Halves, cut: u64) -> (u32, u32)
     ensures { (lists : List (List (ℕ × ℕ))) → AreStored lists → IsHalved lists k halves
         → (bit : ℕ) → IsAlike bit (list_at lists k) cut → IsSplit lists k cut result.0 result.1 }

@@ -12,8 +12,8 @@ ghost use Rattle.theory.specs.Quotient.{Quotient};
 ghost use Rattle.theory.specs.Alike.{SameSteps};
 
 /// Reordering or repeating the transitions of a system does not change its reachable states, the bisimilarity of its
-/// states, the number of splits that refinement makes, or its quotients. If the transitions of a quotient are
-/// reordered, the result is also a quotient.
+/// states, the number of splits that refinement makes, its quotients, or the systems that are equivalent to it. If the
+/// transitions of a quotient are reordered, the result is also a quotient.
 pub fn the_order_does_not_matter()
     ensures permuted { (A B : System) → A.first ≡ B.first → A.states ≡ B.states →
         IsPermutation A.transitions B.transitions → SameSteps A B }

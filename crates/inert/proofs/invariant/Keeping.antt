@@ -24,11 +24,11 @@ AreSound u signatures w = (j : ℕ) → j < length w.items → IsSound u signatu
 -- The stack is divided into components, which are strongly connected sets of states. Each component collects items:
 -- pairs (label ID, block) and signature IDs. The root of a component is its first state on the stack. `KeepsStack`
 -- compares the data of the search before a move (w) and after the move (`new`). It holds under five conditions. First,
--- the move does not change the states below the index n of the stack. Second, if a component of w has a state below the
--- index n, all of its states are below the index n. Third, the move does not change the items that these components
--- have collected. Fourth, each root of `new` is a root of w too, or it is at the index n of the stack or above and the
--- items of its component come after all items of w. Fifth, each state that is completed in w is completed in `new` with
--- the same signature ID.
+-- the move changes neither the states below the index n of the stack nor their statuses. Second, if a component of w
+-- has a state below the index n, all of its states are below the index n. Third, the move does not change the items
+-- that these components have collected. Fourth, each root of `new` is a root of w too, or it is at the index n of the
+-- stack or above and the items of its component come after all items of w. Fifth, each state that is completed in w is
+-- completed in `new` with the same signature ID.
 pub record KeepsStack (w new : Search) (n : ℕ) : Type 0 where
   pub within : n ≤ length w.stack
   pub states : (p : ℕ) → p < n → slice_index new.stack p ≡ slice_index w.stack p

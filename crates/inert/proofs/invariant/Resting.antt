@@ -44,8 +44,9 @@ module _ {active : List ℕ} {old w : Search} (woken : AreMarkedUnvisited old.st
       grind (arith, cases_lt s (length w.stages), past, others s, unvisited s)
 
   -- The active states are the states that the round processes, and they are marked as unvisited. Suppose that each
-  -- state that is not active but shares a block with an active state has the correct cached signature ID. Then no
-  -- search is in progress, and the invariant of the search holds, so that a search can begin (`IsAtRest`).
+  -- state that is not active but shares a block with an active state has the correct cached signature ID, and that at
+  -- least one signature is interned. Then no search is in progress, and the invariant of the search holds, so that a
+  -- search can begin (`IsAtRest`).
   pub woken_rests : {u : Under} {signatures : List (List (ℕ × ℕ))}
       → CachesBeside u.l u.blocks active signatures (cached old.stages) → 1 ≤ length signatures
       → IsAtRest u signatures w

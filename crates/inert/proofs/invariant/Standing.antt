@@ -1,5 +1,5 @@
 -- Consequences of the invariant of the search (`SearchInvariant`), which holds whenever the search has processed a
--- transition or has gone back from a state whose transitions were all read.
+-- transition of a state on the stack or has gone back from a state whose transitions were all read.
 use Rattle.std.proofs.Common.{rules, ◌≡◌, ℕ, ◌-◌, ◌<◌, ◌≤◌, List, length, slice_index, sym, arith}
 use Rattle.std.specs.List.{All}
 use Rattle.std.proofs.lemmas.List.{get_or_default, get_or_past}

@@ -258,8 +258,9 @@ module _ {u : Under} {signatures : List (List (ℕ × ℕ))} {w : Search} (walks
           grind (arith, walks.sizes, length-set, size, fewer) in
           search (rules, walks, sizes, opened, signed, roots, frames, connects, sound, accounted)
 
-      -- If the search pushes the state t, the invariant of the search still holds (`GoesOn`). The number of visits
-      -- (counted reads of transitions) that the search still has to make does not change.
+      -- Suppose that an inert step leads from the current state, if there is one, to the state t. If the search pushes
+      -- t, the invariant of the search still holds (`GoesOn`). The number of visits (counted reads of transitions) that
+      -- the search still has to make does not change.
       pub entered_on : GoesOn u signatures signatures w Entered × (ahead u Entered ≡ ahead u w)
       entered_on =
           let read = unread-set w.stages t (OnStack n) refl within unseen (remaining u) in

@@ -66,9 +66,10 @@ module _ (laws : Laws) {u : Under} (lts : IsLts u.l) {signatures : List (List (�
       grind (arith, walks.accounted p k lp lk source, left, last_frame walks, h, lk, source)
 
   -- The last component is the strongly connected set of states at the top of the stack. Its items are pairs (label ID,
-  -- block) and signature IDs, and a signature ID represents all pairs of its signature. Suppose that a path of inert
-  -- steps leads from a state in the last component to a state with a transition that is not inert. Then some item of
-  -- the last component represents the pair (label ID, target block) of this transition.
+  -- block) and signature IDs, and a signature ID represents all pairs of its signature. Suppose that all transitions of
+  -- the states of the last component were read. Suppose also that a path of inert steps leads from a state in the last
+  -- component to a state with a transition that is not inert. Then some item of the last component represents the pair
+  -- (label ID, target block) of this transition.
   collects : (z : ℕ × ℕ) (us : List ℕ) (p : ℕ) → here w ≤ p → p < length w.stack → (v t : ℕ)
       → Along (Inert (system_of u.l) (slice_index u.blocks)) (slice_index w.stack p) us v
       → Step (system_of u.l) v (text_of u.l.labels z.0) t → slice_index u.blocks t ≡ z.1
@@ -113,9 +114,10 @@ module _ (laws : Laws) {u : Under} (lts : IsLts u.l) {signatures : List (List (�
       ∙ get_or_default w.items (c0 + i) x _ low') g))
 
   -- The last component is the strongly connected set of states at the top of the stack. Its items are pairs (label ID,
-  -- block) and signature IDs, and a signature ID represents all pairs of its signature. Suppose that the pairs of an
-  -- interned signature are exactly the pairs that the items of the last component represent. Then this signature is the
-  -- signature of each state of the component.
+  -- block) and signature IDs, and a signature ID represents all pairs of its signature. Suppose that all transitions of
+  -- the states of the last component were read. Suppose also that the pairs of an interned signature are exactly the
+  -- pairs that the items of the last component represent. Then this signature is the signature of each state of the
+  -- component.
   module _ {lists' : List (List (ℕ × ℕ))} {id : ℕ} (listed : IsUnionOfItems (drop c0 w.items) signatures lists' id)
     where
       pub exact : (p : ℕ) → here w ≤ p → p < length w.stack → IsSigned u (slice_index w.stack p) lists' id

@@ -9,8 +9,8 @@ use Rattle.refine_core.proofs.strong.sign_active.Given.{Over}
 use Rattle.refine_core.proofs.strong.sign_active.Goals.{In-loop-i}
 
 -- The following lemmas are about one iteration of a loop that goes through the active states, which are the states that
--- the round processes. The iteration computes the signature of one active state, and visits (reads and counts) its
--- transitions.
+-- the round processes. The iteration computes the signature of one active state, and reads its transitions. It visits
+-- (reads and counts) only those that were not visited before.
 module _ (g : Over) (c : In-loop-i g) where
   more : c.loop-i.i < length c.args.active.now
   more = omega (arith, c.loop-i-test.true, c.loop-i.auto.i-end)
