@@ -73,8 +73,8 @@ pub record Quotient (rel : Relation) (A Q : System) : Type 0 where
   pub transitions : (e : Transition) → Contains Q.transitions e ↔ (IsQuotientStep rel A e × ¬ IsDropped rel e)
   pub once : AllPairs (λ e f. e ≢ f) Q.transitions
 
--- `allowance` is the largest number of visits (counted reads of transitions) that minimising a system may make. The
--- system has n states and m transitions, and its refinement takes r rounds.
+-- `allowance` is an upper bound on the number of visits (counted reads of transitions) that minimising a system may
+-- make. The system has n states and m transitions, and its refinement takes r rounds.
 abbrev pub allowance : Relation → ℕ → ℕ → ℕ → ℕ
 allowance Strong n m r = (r + 2) * m
 allowance Branching n m r = (r * n + 2) * m
