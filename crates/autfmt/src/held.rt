@@ -25,8 +25,9 @@ const FIRST_WEIGHT: u64 = 0x9E37_79B9_7F4A_7C15;
 /// instead.
 const SECOND_WEIGHT: u64 = 0x9FB2_1C65_1E98_DF25;
 
-/// The hash function `guess_slot` reads eight bytes in the middle of a label as one number of 64 bits, and multiplies
-/// this number by this factor. It does so only for labels with at least eight bytes.
+/// This constant is the factor in the hash function `guess_slot`. The function reads eight bytes in the middle of a
+/// label as one number of 64 bits, and multiplies this number by the factor. It does so only for labels with at least
+/// eight bytes.
 const MIDDLE_WEIGHT: u64 = 0xA24B_AED4_963E_E407;
 
 /// The hash function `guess_slot` reads the last eight bytes of a label as one number of 64 bits, and multiplies this

@@ -213,8 +213,8 @@ AreCacheable u signatures stages = (s k : ℕ) → stage_at stages s ≡ Complet
 -- pairs (label ID, block) and signature IDs. A value of type `Root` belongs to a component. It has the index of the
 -- first state of the component on the stack, and the index at which the items of the component begin in the list of all
 -- items. `IsRoot` holds under two conditions. First, the first state of the component has a frame, which means that the
--- search has not yet gone back from this state. Second, the index at which the items begin is at most the number of all
--- items.
+-- search has not yet gone back from this state. Second, the index at which the items of this component begin is at most
+-- the number of all items that are stored.
 pub record IsRoot (frames : List Frame) (items : List Item) (r : Root) : Type 0 where
   pub framed : (i : ℕ) × (i < length frames) × ((frame_at frames i).height ≡ r.height)
   pub within : r.items ≤ length items

@@ -51,8 +51,8 @@ module _ (places words wide : List ℕ) (k word : ℕ) (have : HaveBits places w
   ]
 
 -- The bit set `words` has one bit for each place (index of a transition). `IsClearing` holds if every bit that is 1 in
--- `words` is the bit of a place that is at the index i or later in the list `places`. This is the case when the words
--- with the bits of the first i places in this list were set to zero.
+-- `words` is the bit of a place that is at the index i or later in the list `places`. This is the case after each word
+-- that contains the bit of one of the first i places in `places` was set to zero.
 abbrev pub IsClearing : List ℕ → List ℕ → ℕ → Type 0
 IsClearing places words i = (k : ℕ) → bit words k ≡ 1
     → (j : ℕ) × (i ≤ j) × (j < length places) × (get_or places j 0 ≡ k)

@@ -41,7 +41,8 @@ one_or : (xs : List ℕ) (y s : ℕ) → IsMember (xs ++ y ∷ []) s → IsMembe
 one_or xs y s one = grind (arith, common_steps)
 
 -- Suppose that a list of numbers is strictly increasing, and that all of its numbers are less than `states`. Then the
--- list satisfies the conditions for a list of active states, which are the states that a round processes (`AreActive`).
+-- list satisfies the conditions for a list of active states (`AreActive`). The active states are the states that a
+-- round processes.
 pub live_rising : (xs : List ℕ) (states : ℕ) → IsStrictlyIncreasing xs
     → ((i : ℕ) → i < length xs → slice_index xs i < states) → AreActive states xs
 live_rising xs states rises below =

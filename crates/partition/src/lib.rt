@@ -42,7 +42,8 @@
 //! `states` (`IsLayout`). During a split, states are moved only within the span of their block, and `cut` does not move
 //! any state. So the block of a state is always the block whose span contains the state.
 //!
-//! Besides the split itself (`splits`), `AreSplitBlocks` states two facts about the blocks before and after the split.
+//! `AreSplitBlocks` states that the new blocks are the split of the old blocks (`splits`). It also states two further
+//! facts about the old and the new blocks.
 //!
 //! * A new block has at most half of the states of its old block (`halves`). The parts of a block are the sets of its
 //!   states with the same signature, and the largest part keeps the block ID (Hopcroft 1971). So if there are n states,

@@ -199,7 +199,8 @@ pub record ActivatesAll (l : Grouped) (e : SearchIndex) (q : Signed) : Type 0 wh
 -- `KeepsIndex` is about a split. The data of the round is p before the split, and q after the split. If there is a
 -- predecessor index before the split, the split must not have changed this index. The next round must then either
 -- search the index or process all states again. If there is no predecessor index before the split, there must be none
--- after the split. The split must then not have changed the active states, which are the states that a round processes.
+-- after the split. In this case, the split must not have changed the active states either, which are the states that a
+-- round processes.
 abbrev pub KeepsIndex : Grouped → IndexState → Signed → Signed → Type 0
 KeepsIndex l Absent p q = (q.index_state ≡ Absent) × (q.blocks.active ≡ p.blocks.active)
 KeepsIndex l (Searched e) p q = AwaitsSearch e p q ⊎ ActivatesAll l e q

@@ -88,10 +88,10 @@ module _ {u : Under} {signatures lists' : List (List (ℕ × ℕ))} (grow : Grow
   }
 
   -- Suppose that a move of the search does not change the states below the index n of the stack. Let s be one of these
-  -- states. Suppose that two conditions hold. First, if a certain transition of s was still to be read before the move,
-  -- then it is still to be read or was processed after the move. Second, if the search had gone from s to some state
-  -- and had not yet returned from it before the move, then it has followed an inert step from s to this state after the
-  -- move (`IsFollowed`). Then the transition of s is still to be read or was processed after the move.
+  -- states, and let e be a transition of s. Suppose that two conditions hold. First, if e was still to be read before
+  -- the move, then after the move e is still to be read or has been processed. Second, if the search had gone from s to
+  -- some state and had not yet returned from it before the move, then it has followed an inert step from s to this
+  -- state after the move (`IsFollowed`). Then e is still to be read or has been processed after the move.
   pub accounted_still : (p k : ℕ) → p < n → k < length u.l.places
       → source_of (place_at u.l.places k) ≡ slice_index new.stack p
       → (IsToBeRead w p k → IsToBeRead new p k ⊎ IsHandled u lists' new p (place_at u.l.places k))
