@@ -33,7 +33,7 @@ def system(draw):
     share, far = draw.choice((0, 0.2, 0.5, 0.8)), draw.choice((1, 3, states))
     label = lambda: draw.choice(("i", '"i"')) if draw.random() < share else draw.choice(labels)
     lines = [(max(0, target - draw.randint(1, far)), label(), target) for target in range(1, states)]
-    # Some systems only go forward.
+    # If `back` is 0 or 1, no transition leads to a state with a smaller number.
     back = draw.choice((-far, -1, 0, 1))
     for _ in range(int(states * draw.choice((0, 0.3, 1, 3)))):
         source = draw.randrange(states)
@@ -72,7 +72,7 @@ def altered(draw, states, lines):
 
 
 def second(draw, one):
-    """A system to compare with. It often is equivalent, and often nearly so."""
+    """A system to compare with the given system. It often is equivalent, and often differs only a little."""
     for change in (doubled, delayed, altered, altered):
         if draw.random() < 0.5:
             one = change(draw, *one)
@@ -80,7 +80,7 @@ def second(draw, one):
 
 
 def text(draw, states, lines):
-    """The file, with states and transitions in another order. The first state has any number."""
+    """The text of a file of the system, with states and transitions in random order. The first state has any number."""
     numbers = draw.sample(range(states), states)
     comma = draw.choice((",", ", ", " , "))
     shown = [f"({numbers[source]}{comma}{label}{comma}{numbers[target]})\n" for source, label, target in lines]
@@ -88,7 +88,7 @@ def text(draw, states, lines):
 
 
 def differing(seed, case, programs, folder):
-    """The command line for which the outputs differ in this case, or None."""
+    """The command line for which the outputs differ in this case, or None if they differ for no command line."""
     draw = random.Random(f"{seed} {case}")
     one = system(draw)
     for name, drawn in (("one", one), ("two", second(draw, one))):

@@ -121,7 +121,7 @@ def made(system):
     file = KEPT / f"{system.replace(' ', '-')}.aut"
     if not file.exists():
         beside = file.with_suffix(".new")
-        # In a process of its own, since a run cannot be seen to take less memory than this process.
+        # A separate process writes the system, since the measured memory of a run is never below that of this process.
         with open(beside, "wb") as out:
             status = subprocess.run([sys.executable, HERE / "systems.py", *system.split()], stdout=out).returncode
         if status != 0:

@@ -1,9 +1,10 @@
 #!/usr/bin/env python3
-"""Lists, from the sources, what has to be read to believe a contract: every definition of the specs that its clauses
-cite, and those that these cite in turn, with what gives the contract's variables their meaning.
-usage: tools/reading.py            prints docs/reading.md as the sources have it
-       tools/reading.py --write    writes it there
-The page's other text is kept; what this script makes stands between two lines of the page that say so."""
+"""Lists all that has to be read to believe a contract: the definitions in specs/ that the clauses of the contract cite,
+the definitions that these definitions cite in turn, and the definitions that give the variables of the contract their
+meaning. The lists are made from the sources.
+usage: tools/reading.py            prints the page docs/reading.md with new lists
+       tools/reading.py --write    writes this page to docs/reading.md
+The lists are between two marked lines of the page. The script keeps the other text of the page."""
 import os
 import re
 import sys
@@ -11,8 +12,9 @@ import textwrap
 from pathlib import Path
 
 TOP = Path(__file__).resolve().parent.parent
-MODULES = {}  # by their names
-# Each call has its crate; a call rests on all that its clauses cite but the words of the calls that stand after it.
+MODULES = {}  # the modules, by their names
+# The public functions whose contracts are listed: for each, its crate, its name, and other functions of this list, the
+# definitions of which are not listed again.
 CONTRACTS = [
     ("autbis", "run_min", []),
     ("autbis", "run_cmp", []),
@@ -23,7 +25,7 @@ TRAITS = [("autfmt", "Source"), ("autfmt", "Sink"), ("lts", "Meter"), ("autbis",
 VIEWS = [("autfmt", "Limits"), ("autfmt", "Hidden")]
 USE = re.compile(r"\s*(?:pub )?(?:ghost )?use Rattle\.([\w.]+)(?:\.\{(.*?)\}| as (\S+))?;?$")
 HEAD = re.compile(r"(?:abbrev|unfoldable|data|record|pub)\s+(?:(?:pub|data|record)\s+)*(\S+)")
-# A type or a constant, and what may stand before it.
+# A pattern for the beginning of a declaration of a type or a constant.
 ITEM = r"(?:pub(?:\(crate\))? )?(?:enum|struct|const)"
 
 
@@ -32,7 +34,7 @@ def place(path):
 
 
 class Scope:
-    """What a file brings in, under the names that it has there, and the definitions of its own."""
+    """The names that a file can use: the names that it imports, and the names of its own definitions."""
 
     def __init__(self, lines, own="", definitions=()):
         self.names, self.modules = {name: (own, name) for name in definitions}, {}
@@ -45,7 +47,7 @@ class Scope:
                 self.names[local or item] = (module, item)
 
     def cited(self, text):
-        """What a text of antt cites: pairs of a module's name and a definition's."""
+        """The definitions that a text of an .antt file cites, as pairs (name of the module, name of the definition)."""
         for word in re.split(r"[\s(){}\[\];,\\]+", re.sub(r'"[^"]*"', " ", text)):
             first, *rest = word.split(".")
             if first in self.modules:
@@ -55,7 +57,7 @@ class Scope:
 
 
 class Module:
-    """A file of specs: its definitions in their order, each a comment and its lines."""
+    """A file in specs/: its definitions in the order of the file, each with its comment and its lines."""
 
     def __init__(self, crate, path):
         self.path, self.name, self.definitions = path, f"{crate}.specs.{path.stem}", {}
@@ -77,7 +79,7 @@ class Module:
 
 
 def read_modules():
-    """The modules of the crates of crates.txt, each crate after those that it stands on."""
+    """The modules of the crates in crates.txt. Each crate comes after the crates on which it depends."""
     lines = (TOP / "crates.txt").read_text().splitlines()
     needs = {line.split(":")[0]: line.split(":")[1].split() for line in lines if ":" in line and line[0] != "#"}
     below = lambda name: [crate for other in needs[name] if other in needs for crate in below(other)] + [name]
@@ -88,7 +90,7 @@ def read_modules():
 
 
 def closure(roots):
-    """The definitions that these rest on, with those that they cite, and the types and constants of the code."""
+    """The definitions `roots` and all definitions on which they depend, and the types and constants that these cite."""
     seen, code, waiting = set(), {}, list(roots)
     while waiting:
         module, name = waiting.pop()
@@ -106,7 +108,7 @@ def closure(roots):
 
 
 class Item:
-    """An item of the code: its file, what the first paragraph of its comment says, its lines, and what it can cite."""
+    """An item of the code: its file, the first paragraph of its comment, its lines, and the names that it can use."""
 
     def __init__(self, crate, name, kind, end="}"):
         for path in sorted((TOP / "crates" / crate / "src").rglob("*.rt")):
@@ -151,7 +153,7 @@ def count(definitions):
 
 
 def above(definitions, code):
-    """A list of what stands in the lists above."""
+    """The lines of a list of those definitions and items that earlier lists of the page contain."""
     for module in MODULES.values():
         here = [f"`{name}`" for name in module.definitions if (module.name, name) in definitions]
         if here:
@@ -182,7 +184,7 @@ def lists():
 
 
 def variables(known):
-    """The clauses of the traits that the contracts are generic in, and what a value of a type stands for."""
+    """The clauses of the traits over which contracts are generic, and the views that values in clauses stand for."""
     out, roots = ["## What the variables stand for", ""], []
     for crate, name in TRAITS:
         item = Item(crate, name, "pub trait")
@@ -212,14 +214,14 @@ def fault():
 
 
 def made():
-    """The lines of the page."""
+    """The lines between the two marked lines of the page."""
     MODULES.update((module.name, module) for module in read_modules())
     listed, known = lists()
     return [*variables(known), *fault(), *listed]
 
 
 def publish(tool, page, writes, made):
-    """Prints the page with the lines made between the two lines of it that say so, or writes it."""
+    """Puts the lines that `made` returns between the two marked lines of the page, and prints or writes the page."""
     begin, end = f"<!-- made by {tool} -->", "<!-- up to here -->"
     beside = page.with_suffix(".new")
     try:
@@ -237,7 +239,7 @@ def publish(tool, page, writes, made):
         if beside.is_file():
             beside.unlink()
         print(f"{tool}: {str(error) or 'stopped'}", file=sys.stderr, flush=True)
-        # What is left in the buffer cannot be written.
+        # The rest of the buffer cannot be written, so Python must not try to write it when the script ends.
         os._exit(1)
 
 

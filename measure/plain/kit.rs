@@ -1,4 +1,5 @@
-//! As much of Rattle's standard library as the stripped crates call, over Rust's. A growth is never refused.
+//! The part of Rattle's standard library that the stripped crates call, written with Rust's standard library. No
+//! allocation returns an error.
 #![allow(clippy::result_unit_err)]
 
 use std::hash::{BuildHasher, BuildHasherDefault, Hash, Hasher};
@@ -34,7 +35,7 @@ impl<T> Vec<T> {
         self.0.push(value);
         Ok(())
     }
-    /// Where the capacity is there.
+    /// Appends a value to a vector that has capacity for this value.
     pub fn push_reserved(&mut self, value: T) {
         unsafe {
             let count = self.0.len();
@@ -110,7 +111,7 @@ impl<T> DerefMut for Vec<T> {
     }
 }
 
-// A proved index is not checked.
+// Each index is proved to be in range, so it is not checked.
 impl<T, I: SliceIndex<[T]>> Index<I> for Vec<T> {
     type Output = I::Output;
     fn index(&self, place: I) -> &I::Output {
@@ -211,7 +212,7 @@ impl<K: Eq + Hash, V> HashMap<K, V> {
     }
 }
 
-/// Byte strings by number, alone: what the label table needs.
+/// Byte strings, each with a number. Only the functions that the label table calls are here.
 pub struct IndexMap<K, V> {
     numbers: Map<std::vec::Vec<u8>, usize>,
     keys: std::vec::Vec<K>,

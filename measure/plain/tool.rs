@@ -1,4 +1,5 @@
-//! Reads a system, minimises it by the stripped crates, writes it, and says how many rounds and visits that took.
+//! Reads a system, minimises it with the stripped crates, writes the result, and reports how many rounds and visits
+//! (counted reads of a transition) this took.
 
 mod text;
 
