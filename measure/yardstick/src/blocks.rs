@@ -1,16 +1,17 @@
-//! Refinement that signs only states whose signature can have changed: those *touched*.
+//! Refinement that computes only the signatures of *touched* states. These are the states whose signatures can have
+//! changed.
 
 use crate::rows::Rows;
 use crate::signatures::Signatures;
 use std::collections::VecDeque;
 
-/// States in blocks. A block is a range of `members`; its touched members are at the end of it.
+/// The blocks of states. A block is a range of `members`, and its touched members are at the end of this range.
 struct Blocks {
     of: Vec<u32>,
     members: Vec<u32>,
     places: Vec<u32>,
     ranges: Vec<Range>,
-    /// Blocks with touched members.
+    /// The blocks that contain touched members.
     todo: VecDeque<u32>,
 }
 
@@ -22,7 +23,7 @@ struct Range {
 }
 
 impl Blocks {
-    /// Touches a state, unless it is alone in its block, which cannot be split.
+    /// Marks a state as touched, unless it is the only state of its block. A block with one state cannot be split.
     fn touch(&mut self, state: u32) {
         let block = self.of[state as usize];
         let range = &mut self.ranges[block as usize];
@@ -44,7 +45,7 @@ impl Blocks {
         self.places[state as usize] = place;
     }
 
-    /// Touches what inert steps lead from to a touched member of the block.
+    /// Marks each state as touched from which inert steps lead to a touched member of the block.
     fn touch_before(&mut self, block: u32, backwards: &Rows, internal: u32) {
         let mut place = self.ranges[block as usize].end;
         while place > self.ranges[block as usize].touched {
@@ -57,12 +58,13 @@ impl Blocks {
         }
     }
 
-    /// Splits a block into its untouched members and, by the number of its signature, each touched one of these, which
-    /// are none any more. The largest part keeps the block's number; returns the members of the others.
+    /// Splits a block into parts by the numbers of the signatures of its members. An untouched member counts as a
+    /// member with the number 0. After the split, no member is touched. The largest part keeps the number of the block.
+    /// Returns the members of the other parts.
     fn split(&mut self, block: u32, touched: &[u32], signed: &[u32], signatures: u32) -> Vec<u32> {
         let old = self.ranges[block as usize];
         let mut parts = vec![Range { first: 0, touched: 0, end: 0 }; signatures as usize];
-        // The number of its members yet.
+        // Until all members are counted, the field `end` of a part is the number of its members.
         parts[0].end = old.touched - old.first;
         touched.iter().for_each(|&s| parts[signed[s as usize] as usize].end += 1);
         let largest = (0..parts.len()).max_by_key(|&k| parts[k].end).unwrap_or(0);
@@ -100,7 +102,7 @@ pub fn refine(rows: &Rows, internal: Option<u32>) -> Vec<u32> {
         internal.iter().for_each(|&internal| blocks.touch_before(block, &backwards, internal));
         let range = blocks.ranges[block as usize];
         let mut touched = blocks.members[range.touched as usize..range.end as usize].to_vec();
-        // Inert steps lead to smaller numbers.
+        // Inert steps lead to states with smaller numbers, whose signatures have to be computed first.
         touched.sort_unstable();
         signatures.clear();
         for &s in &touched {

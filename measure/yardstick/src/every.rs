@@ -1,4 +1,4 @@
-//! Refinement that signs every state in every round.
+//! Refinement that computes the signature of every state in every round.
 
 use crate::rows::Rows;
 use crate::signatures::Signatures;
@@ -10,10 +10,10 @@ pub fn refine(rows: &Rows, internal: Option<u32>) -> Vec<u32> {
         signatures.clear();
         for s in 0..rows.states() {
             let block = blocks[s as usize];
-            // Inert steps lead to smaller numbers, which are signed.
+            // Inert steps lead to states with smaller numbers, whose signatures are known already.
             signed[s as usize] = signatures.sign(rows.row(s), internal, block, &blocks, |t| signed[t as usize]);
         }
-        // Number 0 is no state's.
+        // No state has the signature with the number 0.
         blocks.iter_mut().zip(&signed).for_each(|(block, number)| *block = number - 1);
         if signatures.count() - 1 == count {
             return blocks;

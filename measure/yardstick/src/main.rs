@@ -1,10 +1,11 @@
-//! A minimiser in plain Rust, with nothing proved: the yardstick of `docs/scale.md`, and the second opinion of
-//! `measure/compare`. It writes, byte for byte, what `autbis min` and `autbis cmp` write for texts that read.
+//! A minimiser in plain Rust, about which nothing is proved. It is the baseline of `docs/scale.md`, and
+//! `measure/compare` compares its outputs with the outputs of `autbis`. For files that can be read, it writes the same
+//! bytes as `autbis min` and `autbis cmp`.
 //!
-//! Both give states numbers of blocks and split blocks by signatures until none splits (Blom and Orzan 2003). This one
-//! need not look at every transition in every round: it signs only states whose signature can have changed, the largest
-//! part of a block keeps its number, and internal cycles are contracted first. With `--every` it signs every state in
-//! every round.
+//! Like `autbis`, this program splits blocks by signatures until no block can be split (Blom and Orzan 2003). It need
+//! not read every transition in every round: it computes only signatures that can have changed, the largest part of a
+//! block keeps the number of the block, and internal cycles are contracted first. With `--every`, it computes the
+//! signature of every state in every round.
 
 mod blocks;
 mod every;
@@ -22,7 +23,7 @@ fn read_file<T>(file: &str, read: impl Fn(&[u8]) -> Result<T, String>) -> Result
     text.and_then(|text| read(&text)).map_err(|fault| format!("{file}: {fault}"))
 }
 
-/// What is written of one system, the quotient, or of two, the verdict.
+/// The output of the program: the quotient of one system, or the verdict on two systems.
 fn answer(every: bool, branching: bool, hide: Option<&str>, files: &[&str]) -> Result<Vec<u8>, String> {
     let hidden = hide.map_or(Ok(vec![]), |file| read_file(file, text::read_labels))?;
     let mut system = read_file(files[0], |text| text::read(text, &hidden))?;
@@ -33,7 +34,7 @@ fn answer(every: bool, branching: bool, hide: Option<&str>, files: &[&str]) -> R
     let System { first, states, ref labels, ref steps } = system;
     let rows = Rows::of(states, steps.iter().copied());
     let internal = labels.iter().position(|label| branching && label == b"i").map(|k| k as u32);
-    // Strong bisimilarity has no inert steps, so that each state is a component.
+    // For strong bisimilarity, no step is inert, so each state is a component of its own.
     let found = internal.map(|internal| {
         let (of, count) = rows.components(internal);
         let between = steps.iter().map(|step| (of[step.0 as usize], step.1, of[step.2 as usize]));

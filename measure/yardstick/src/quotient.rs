@@ -1,9 +1,10 @@
-//! The text of the quotient, in the one order in which it is written.
+//! The text of the quotient, with states and lines in the order that `docs/format.md` defines.
 
 use crate::rows::{Rows, NONE};
 use crate::text::{put_number, spelled, System};
 
-/// Blocks numbered from 0: that of the first state, then in the order of their least members that are reached.
+/// Numbers the blocks with reachable states. The block of the first state has the number 0, and the other blocks are
+/// numbered in the order of their smallest reachable states.
 fn numbered(system: &System, rows: &Rows, block_of: impl Fn(u32) -> u32) -> (Vec<u32>, u32) {
     let reached = rows.reached(system.first);
     let (mut numbers, mut count) = (vec![NONE; rows.states() as usize], 0);
@@ -17,7 +18,8 @@ fn numbered(system: &System, rows: &Rows, block_of: impl Fn(u32) -> u32) -> (Vec
     (numbers, count)
 }
 
-/// The text of the quotient by blocks of the states of `contracted`; `block_of` gives those of the system.
+/// The text of the quotient. The list `blocks` contains the block of each state of `contracted`, and the function
+/// `block_of` returns the block of a state of the system.
 pub fn written(
     system: &System,
     rows: &Rows,
@@ -27,7 +29,7 @@ pub fn written(
 ) -> Vec<u8> {
     let (numbers, count) = numbered(system, rows, block_of);
     let number_of = |s: u32| numbers[blocks[s as usize] as usize];
-    // The least state of a block has no inert step, so that its row shows all that the block does.
+    // The smallest state of a block has no inert step, so its row contains all steps of the block.
     let mut shown_by = vec![NONE; count as usize];
     for s in (0..contracted.states()).rev().filter(|&s| number_of(s) != NONE) {
         shown_by[number_of(s) as usize] = s;

@@ -1,21 +1,24 @@
-//! Different signatures, each kept once and known by its number.
+//! A table of signatures. Each signature is stored once, and is identified by its number.
 
 use crate::rows::{Step, NONE};
 use crate::text::{Fold, Map};
 use std::hash::Hasher;
 
-/// A label, and a block or, with this mark, the number of another signature.
+/// A pair of a signature consists of a label and a block. If this bit is set in the second number of a pair, the other
+/// bits of this number are the number of another signature.
 const IS_SIGNATURE: u32 = 1 << 31;
 
 fn pair(label: u32, target: u32) -> u64 {
     (label as u64) << 32 | target as u64
 }
 
-/// Lists of pairs in rising order, one after the other, found again by their hashes.
+/// The signatures, which are lists of pairs in ascending order. The lists are stored one after the other, and are found
+/// by their hashes.
 pub struct Signatures {
     pairs: Vec<u64>,
     ends: Vec<usize>,
-    /// The number of a list by its hash, or by one of the next numbers if others have that hash.
+    /// Maps the hash of a list to the number of the list. If the hash belongs to another list already, the next unused
+    /// hash takes its place.
     numbers: Map<u64, u32>,
     own: Vec<u64>,
     inert: Vec<u32>,
@@ -23,7 +26,8 @@ pub struct Signatures {
 }
 
 impl Signatures {
-    /// Where all states of one call of `clear` are of one block, or where those of different blocks are kept `apart`.
+    /// An empty table. If `apart` is true, states of different blocks get different signatures. If it is false, all
+    /// states that are signed between two calls of `clear` must be in the same block.
     pub fn new(apart: bool) -> Signatures {
         Signatures { pairs: vec![], ends: vec![0], numbers: Map::default(), own: vec![], inert: vec![], apart }
     }
@@ -32,9 +36,9 @@ impl Signatures {
         self.ends.len() as u32 - 1
     }
 
-    /// Forgets all signatures but a first one that has number 0 and equals no other.
+    /// Removes all signatures, except for a first signature, which has the number 0 and is not found by its hash.
     pub fn clear(&mut self) {
-        // A map takes time by its capacity.
+        // Clearing a map takes time proportional to its capacity.
         if self.numbers.capacity() > 64 + 8 * self.numbers.len() {
             self.numbers = Map::default();
         }
@@ -48,9 +52,10 @@ impl Signatures {
         &self.pairs[self.ends[k as usize]..self.ends[k as usize + 1]]
     }
 
-    /// The number of the signature of a state with this row in a block. `block_of` are the blocks of all states,
-    /// `signed` the numbers of the signatures of those in the block that inert steps lead to. If one of these shows
-    /// all that the row does, the signature is that one (Blom and van de Pol 2009).
+    /// Returns the number of the signature of a state in the block `block` with the steps `row`. The list `block_of`
+    /// contains the block of each state. The function `signed` returns the number of the signature of a state to which
+    /// an inert step leads. If one of these signatures contains all pairs of the row, it is also the signature of the
+    /// state (Blom and van de Pol 2009).
     pub fn sign(
         &mut self,
         row: &[Step],
@@ -76,7 +81,7 @@ impl Signatures {
             self.inert.sort_unstable();
             self.inert.dedup();
         }
-        // Only the last one to be made can show the others.
+        // Only the signature with the largest number can contain the others.
         let last = self.inert.pop();
         let named = |number: u32| pair(internal.unwrap_or(NONE), IS_SIGNATURE | number);
         self.own.extend(self.inert.iter().map(|&number| named(number)));

@@ -1,9 +1,9 @@
-//! Reading and writing the Aldebaran format (`docs/format.md`), without its limits.
+//! Reads and writes the Aldebaran format (`docs/format.md`), without the limits of this format.
 
 use std::collections::{HashMap, HashSet};
 use std::hash::{BuildHasherDefault, Hasher};
 
-/// What a text says. A step is a source, the number of a label, and a target.
+/// The system that a text describes. A step consists of a source, the number of a label, and a target.
 pub struct System {
     pub first: u32,
     pub states: u32,
@@ -12,7 +12,8 @@ pub struct System {
 }
 
 impl System {
-    /// Adds another system, whose states get the numbers after those of this one; returns that of its first state.
+    /// Adds another system, whose states are numbered after the states of this system. Returns the new number of the
+    /// first state of the other system.
     pub fn add(&mut self, other: &System) -> u32 {
         let before = self.states;
         let number = |label: &Vec<u8>| {
@@ -29,7 +30,8 @@ impl System {
     }
 }
 
-/// A map with a hasher that takes eight bytes at a time; the one of the standard library takes several times as long.
+/// A map with a hash function that processes eight bytes at a time. The hash function of the standard library takes
+/// several times as long.
 pub type Map<K, V> = HashMap<K, V, BuildHasherDefault<Fold>>;
 
 #[derive(Default)]
@@ -44,7 +46,7 @@ impl Hasher for Fold {
         }
     }
 
-    /// The two halves of a product, one over the other.
+    /// Combines the two halves of a product by exclusive or.
     fn write_u64(&mut self, word: u64) {
         let product = (self.0 ^ word ^ 0x243f_6a88_85a3_08d3) as u128 * 0x9e37_79b9_7f4a_7c15;
         self.0 = (product >> 64) as u64 ^ product as u64;
@@ -55,7 +57,8 @@ impl Hasher for Fold {
     }
 }
 
-/// Takes a byte off the front of a text, with the blanks after it, as those below do.
+/// Removes a byte and the blanks after it from the front of a text. The functions below remove other items in the same
+/// way.
 fn take(text: &mut &[u8], byte: u8) -> Option<()> {
     *text = text.strip_prefix(&[byte])?.trim_ascii_start();
     Some(())
@@ -80,7 +83,8 @@ fn take_label<'a>(text: &mut &'a [u8]) -> Option<&'a [u8]> {
     Some(label).filter(|label| !label.is_empty())
 }
 
-/// Takes a number, something else and a number, with commas between and parentheses around.
+/// Removes a number, an item that `second` removes, and another number, with commas between them and parentheses around
+/// them.
 fn take_three<'a, T>(text: &mut &'a [u8], second: impl Fn(&mut &'a [u8]) -> Option<T>) -> Option<(u32, T, u32)> {
     take(text, b'(')?;
     let first = take_number(text)?;
@@ -103,7 +107,7 @@ pub fn read_labels(text: &[u8]) -> Result<Vec<Vec<u8>>, String> {
     Ok(labels)
 }
 
-/// Reads a text, of which the labels `hidden` are internal.
+/// Reads the system that a text describes, and makes the labels `hidden` internal.
 pub fn read(text: &[u8], hidden: &[Vec<u8>]) -> Result<System, String> {
     let mut text = text.strip_prefix(b"des").ok_or("no header")?.trim_ascii_start();
     let header = take_three(&mut text, take_number).filter(|header| header.0 < header.2);
@@ -127,7 +131,7 @@ pub fn read(text: &[u8], hidden: &[Vec<u8>]) -> Result<System, String> {
     Ok(System { first, states, labels, steps })
 }
 
-/// A label as it is written: plain if it can be.
+/// A label as it is written in a file: without quotation marks if this is possible.
 pub fn spelled(label: &[u8]) -> Vec<u8> {
     let plain = !label[0].is_ascii_digit() && label.iter().all(|byte| byte.is_ascii_alphanumeric() || *byte == b'_');
     let quote: &[u8] = if plain { b"" } else { b"\"" };
