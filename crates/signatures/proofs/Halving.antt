@@ -3,8 +3,8 @@
 -- point, and the second half has all other pairs. The split point depends only on the first and the last pair of the
 -- list. These lemmas also show under which conditions two interned lists are the halves of a list, and that no two
 -- other interned lists are the halves of this list.
-use Rattle.std.proofs.Common.{rules, ◌≡◌, ℕ, ◌-◌, ◌<◌, ◌≤◌, List, [], ◌++◌, length, get_or, Contains, inl, inr, arith}
-use Rattle.std.proofs.Common.{min, max}
+use Rattle.std.proofs.Common.{rules, ◌≡◌, ℕ, ◌-◌, ◌<◌, ◌≤◌, List, [], ◌++◌, length, get_or, Contains, min, max, ⊎_elim}
+use Rattle.std.proofs.Common.{arith}
 use Rattle.std.specs.List.Sorted.{IsStrictlySortedBy}
 use Rattle.std.proofs.lemmas.List.{length-append, get_or_default}
 use Rattle.std.proofs.lemmas.List.Elements.{Contains-get_or}
@@ -87,10 +87,7 @@ HasEnds-union {list} {xs} {ys} {low} {high} {low'} {high'} first second unites =
   alike = λ bit l h c place under over.
       let one = first.alike bit l h c place (omega arith) (omega arith) in
       let two = second.alike bit l h c place (omega arith) (omega arith) in
-      record {
-        multiple = place.multiple;
-        alike = λ z d. elim ((unites z).0 d) [ inl a ↦ one.alike z a | inr b ↦ two.alike z b ];
-      };
+      record { multiple = place.multiple; alike = λ z d. ⊎_elim (one.alike z) (two.alike z) ((unites z).0 d) };
 }
 
 -- Suppose that a list has more than 64 pairs (`MOST_WHOLE`). Suppose also that the split point of the list, which is

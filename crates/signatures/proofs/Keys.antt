@@ -95,6 +95,4 @@ module _ {list below above : List (ℕ × ℕ)} {c : ℕ} (parted : IsParted lis
   -- pairs than the list.
   pub parts_shorter : IsCut list c → (length below < length list) × (length above < length list)
   parts_shorter cut =
-      let low = below_has cut.below.0 in
-      let high = above_has cut.above.0 in
-      grind (arith, low, high, cut.below, cut.above, parted.joined, length-append)
+      grind (arith, below_has cut.below.0, above_has cut.above.0, cut.below, cut.above, parted.joined, length-append)

@@ -187,11 +187,10 @@ module _ (pairs new : List (ℕ × ℕ)) (nodes : List Node) (node : Node) (are 
       rw (next.0, next.1) (AreNodes-push pairs l.now nodes _ are few (rw whole suits.ascending) (rw whole suits.fit)
       (omega (arith, longer), omega (arith, suits.few)))
   AreNodes-next (Cut h) next few suits =
-      let rise = λ (k : ℕ) (low : k < length lists). are.stored.rise k [] low in
       let fit = λ (k : ℕ) (low : k < length lists). are.stored.fit k [] low in
       let has = halves_has (list_at lists h.below) (list_at lists h.above) in
       rw (next.0, next.1) (rw (append-nil pairs) at (AreNodes-push pairs [] nodes (Halved h) are few
-      (halves_rise _ _ h.cut (rise _ suits.below) (rise _ suits.above) (fit _ suits.below) (fit _ suits.above)
-      suits.halves.under suits.halves.over) (λ z d. grind (arith, has z, fit _ suits.below z, fit _ suits.above z))
+      (search (rules, halves_rise, are.stored.rise))
+      (λ z d. grind (arith, has z, fit _ suits.below z, fit _ suits.above z))
       (subst (λ n. IsHalved (lists ++ (list_at lists h.below ++ list_at lists h.above) ∷ []) n h)
       (length-lists pairs nodes) (search (rules, list-old, list-new)))))
