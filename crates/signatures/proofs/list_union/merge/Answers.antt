@@ -7,7 +7,6 @@ use Rattle.signatures.proofs.Joining.{or_swap}
 use Rattle.signatures.proofs.Collecting.{beside_skip, beside_more}
 use Rattle.signatures.proofs.Merging.{merged_has, merged_rises}
 use Rattle.signatures.proofs.list_union.merge.Goals as goal
-use Rattle.signatures.proofs.list_union.merge.Goals.{After-swap}
 
 pub loop-k-preserved-then-not-is_own : goal.loop-k-preserved-then-not-is_own
 loop-k-preserved-then-not-is_own c = record {
@@ -19,12 +18,9 @@ loop-k-preserved-then-not-is_own c = record {
 }
 
 -- After the call of `swap`, the vector `pairs` has the result of the last merge.
-now_are : (c : After-swap) → c.swap.new.y.items ≡ merged c.of-list.result.extra.now c.loop-k.pairs.items
-now_are c = search rules
-
 pub loop-k-preserved : goal.loop-k-preserved
 loop-k-preserved c =
-    let is = now_are ((goal.at.loop-k-preserved c).After-swap) in
+    let is : c.swap.new.y.items ≡ merged c.of-list.result.extra.now c.loop-k.pairs.items = search rules in
     let x = parts_of c.of-list.result in
     let old = c.loop-k.pairs.items in
     let known = c.requires.ids c.loop-k.k-index 0 c.loop-k-test.true in
