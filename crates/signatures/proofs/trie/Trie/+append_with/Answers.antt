@@ -21,7 +21,7 @@ pub returns-in_ok-append_with-in-Halved-clause-appended : goal.returns-in_ok-app
 returns-in_ok-append_with-in-Halved-clause-appended t c =
     let stored = c.invariants.ensures.stored in
     let both = merged_halves (halved_parted c.in-Halved.ensures) c.parted.ensures
-    (stored.rise c.args.k [] c.requires.list) c.requires.ascending (stored.fit c.args.k [] c.requires.list)
+    (stored.ascending c.args.k [] c.requires.list) c.requires.ascending (stored.fit c.args.k [] c.requires.list)
     c.requires.fit in
     on_ok_weaker c.append_with-in-Halved.result
     (λ e. append_both _ _ _ c.in_ok-append_with-in-Halved.ensures.appended e
