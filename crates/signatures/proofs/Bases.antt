@@ -29,9 +29,9 @@ module _ (trie : List (List (ℕ × ℕ))) (extensions : List (ℕ × List (ℕ 
         λ (j, low, has). let is = own_or_not own (extension_at extensions (slice_index ids j)).0 in
             search (rules, at j low),
         λ o. elim o [
-          | inl h ↦ search (rules, at h.0 h.1)
-          | inr (inl h) ↦ search (rules, at h.0 h.1)
-          | inr (inr h) ↦ search (rules, at h.0 h.1)
+          | inl h ↦ (h.0, h.1, (at h.0 h.1).1 (inl h.2))
+          | inr (inl h) ↦ (h.0, h.1, (at h.0 h.1).1 (inr h.2.1))
+          | inr (inr h) ↦ (h.0, h.1, (at h.0 h.1).1 (inr h.2.1))
         ],
       )
 
