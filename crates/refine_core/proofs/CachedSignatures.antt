@@ -13,7 +13,7 @@ use Rattle.theory.proofs.CallerLemmas.{empty_before}
 use Rattle.lts.specs.Labels.{text_of}
 use Rattle.lts.specs.Lts.{Grouped, row_of, system_of}
 use Rattle.signatures.specs.Lists.{AreLists, AreIds, Grow, list_at, pair_cmp}
-use Rattle.signatures.proofs.CallerLemmas.{rising_none}
+use Rattle.signatures.proofs.CallerLemmas.{ascending_none}
 use Rattle.partition.specs.Splitting.{IsSingleton}
 use Rattle.partition.specs.Blocks.{RoundBlocks, AreActive, IsMember, InactiveHaveNone}
 use Rattle.inert.specs.Signed.{CachesBeside, SignsActive, IsSignature}
@@ -40,7 +40,7 @@ ready_discarded rel l r size discarded first others = record {
     signature_ids = search (rules, get_or_default, discarded.empty, discarded.only);
     each = λ s h. inr (rw (ap (list_at r.signatures) (discarded.empty s)
         ∙ ap (λ signatures. list_at signatures 0) discarded.only)
-        (rising_none pair_cmp, λ k b. (λ c. absurd (omega (arith, c.1)), λ h. absurd h.1)));
+        (ascending_none pair_cmp, λ k b. (λ c. absurd (omega (arith, c.1)), λ h. absurd h.1)));
   };
   empty = λ branching none. (discarded branching).empty;
 }

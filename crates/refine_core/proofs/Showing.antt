@@ -12,7 +12,7 @@ use Rattle.theory.specs.Blocks.{SameSignature, Split}
 use Rattle.theory.proofs.CallerLemmas.{step_below}
 use Rattle.lts.specs.Labels.{text_of, IsLabelId}
 use Rattle.lts.specs.Lts.{Grouped, system_of}
-use Rattle.signatures.proofs.CallerLemmas.{rising_unique, rising_none}
+use Rattle.signatures.proofs.CallerLemmas.{ascending_unique, ascending_none}
 use Rattle.signatures.specs.Lists.{pair_cmp, list_at}
 use Rattle.partition.specs.Splitting.{IsSingleton}
 use Rattle.partition.specs.Blocks.{IsMember, InactiveHaveNone}
@@ -52,7 +52,7 @@ pub equal_represented : (l : Grouped) (P Q : List ℕ → ℕ → Type 0) (xs ys
 equal_represented l P Q xs ys in_p in_q of_p of_q = (
   λ e a b. let is = subst (IsListOf l Q) (sym e) of_q in
       (carried_over l P Q xs in_p of_p is a b, carried_over l Q P xs in_q is of_p a b),
-  λ same. rising_unique xs ys of_p.0 of_q.0 (λ z. let is = same (text_of l.labels z.0) z.1 in
+  λ same. ascending_unique xs ys of_p.0 of_q.0 (λ z. let is = same (text_of l.labels z.0) z.1 in
       grind (arith, of_p.1 z.0 z.1, of_q.1 z.0 z.1, is)),
 )
 
@@ -176,7 +176,7 @@ strong_signs l old r ready signatures signature_ids first size none put =
       first = λ is s one. elim (rw is at (given s one)) [
         | inl same ↦ rw same.0 (record {
           exactly = λ k b. grind (arith, same.1 (text_of l.labels k) b);
-          ascending = rising_none pair_cmp;
+          ascending = ascending_none pair_cmp;
         })
         | inr changed ↦ changed.2
       ];

@@ -2,7 +2,7 @@
 -- lacks. A pair is in the union of several lists if and only if the pair is in the base of one of these lists, or is an
 -- extra pair of one of these lists.
 use Rattle.std.proofs.Common.{◌≡◌, ◌⊎◌, ◌↔◌, ℕ, Option, None, Some, ◌<◌, List, ◌++◌, length, slice_index, Contains, []}
-use Rattle.std.proofs.Common.{◌+◌, ◌-◌, sym, refl, inl, inr, arith, rules, All, IfSome, get_or-append-add}
+use Rattle.std.proofs.Common.{refl, inl, inr, arith, rules, All, IfSome, get_or-append-add}
 use Rattle.std.proofs.lemmas.Bool.{cases_eq, cases_lt}
 use Rattle.signatures.specs.Lists.{list_at, merged, Grow, HasOne}
 use Rattle.signatures.specs.Extensions.{ShareNone, extension_at, IsExtension, extended_lists, OneHas, HasBase, HasExtra}
@@ -29,9 +29,9 @@ module _ (trie : List (List (ℕ × ℕ))) (extensions : List (ℕ × List (ℕ 
         λ (j, low, has). let is = own_or_not own (extension_at extensions (slice_index ids j)).0 in
             search (rules, at j low),
         λ o. elim o [
-          | inl h ↦ search (rules, at h.0 h.1)
-          | inr (inl h) ↦ search (rules, at h.0 h.1)
-          | inr (inr h) ↦ search (rules, at h.0 h.1)
+          | inl h ↦ (h.0, h.1, (at h.0 h.1).1 (inl h.2))
+          | inr (inl h) ↦ (h.0, h.1, (at h.0 h.1).1 (inr h.2.1))
+          | inr (inr h) ↦ (h.0, h.1, (at h.0 h.1).1 (inr h.2.1))
         ],
       )
 
@@ -62,18 +62,8 @@ joined_apart old trie extensions ids base own left pairs is_base grow each known
 -- Suppose that `all` is the list xs followed by the list ys. Then P holds for an element of `all` if and only if P
 -- holds for an element of xs or for an element of ys.
 pub one_of_both : (P : ℕ → Type 0) (xs ys all : List ℕ) → xs ++ ys ≡ all → OneHas P all ↔ (OneHas P xs ⊎ OneHas P ys)
-one_of_both P xs ys all e = rw (sym e) (
-  λ (j, low, p). elim (cases_lt j (length xs)) [
-    | inl less ↦ inl (j, less, rw get_or_append_left at p)
-    | inr more ↦
-        let right = get_or-append_right xs ys (length xs) j 0 refl more in
-        inr (j - length xs, omega (arith, length-append xs ys), rw right at p)
-  ],
-  λ o. elim o [
-    | inl (j, low, p) ↦ (j, omega (arith, length-append xs ys), rw get_or_append_left p)
-    | inr (j, low, p) ↦ (length xs + j, omega (arith, length-append xs ys), rw get_or-append-add p)
-  ],
-)
+one_of_both P xs ys all e =
+    search (rules, cases_lt, get_or_append_left, get_or-append_right, get_or-append-add, length-append)
 
 pub joined_halves : {A B C H I W : Type 0} → A ↔ (B ⊎ C) → B ↔ H → C ↔ I → W ↔ (H ⊎ I) → A ↔ W
 joined_halves union first second whole = search rules

@@ -1,6 +1,6 @@
 -- These are the lemmas of this crate that the proofs of other crates use. The proofs of other crates import no other
 -- proof file of this crate.
-pub use Rattle.signatures.proofs.Rising.{rising_none, rising_unique}
+pub use Rattle.signatures.proofs.Ascending.{ascending_none, ascending_unique}
 pub use Rattle.signatures.proofs.Joining.{Grow-same, Grow-twice}
 pub use Rattle.signatures.proofs.Keeping.{slice_range-append, slice_range-last}
 pub use Rattle.signatures.proofs.Storing.{All-only}

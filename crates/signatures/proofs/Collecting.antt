@@ -11,13 +11,13 @@ use Rattle.std.proofs.lemmas.Map.Made.{is_member-filter}
 use Rattle.signatures.specs.Lists.{pair_cmp}
 use Rattle.signatures.specs.Extensions.{ShareNone, extension_at}
 use Rattle.signatures.proofs.Joining.{SomeBelow, up_to_more}
-use Rattle.signatures.proofs.Rising.{has_pair, pair_total, pair_Decides}
+use Rattle.signatures.proofs.Ascending.{has_pair, pair_total, pair_Decides}
 
 -- A list is stored as a base, which is a list of pairs that several lists can share, and as extra pairs, which the base
--- lacks. `IsBeside` is about the list whose ID is at the index j of `ids`. It holds if z is an extra pair of this list,
+-- lacks. `IsExtra` is about the list whose ID is at the index j of `ids`. It holds if z is an extra pair of this list,
 -- and if P holds for the ID of the base of this list.
-abbrev pub IsBeside : List (ℕ × List (ℕ × ℕ)) → List ℕ → (ℕ → Type 0) → ℕ × ℕ → ℕ → Type 0
-IsBeside extensions ids P z j =
+abbrev pub IsExtra : List (ℕ × List (ℕ × ℕ)) → List ℕ → (ℕ → Type 0) → ℕ × ℕ → ℕ → Type 0
+IsExtra extensions ids P z j =
     P (extension_at extensions (slice_index ids j)).0 × Contains (extension_at extensions (slice_index ids j)).1 z
 
 -- A list is stored as a base, which is a list of pairs that several lists can share, and as extra pairs, which the base
@@ -26,13 +26,13 @@ IsBeside extensions ids P z j =
 -- of the first i + 1 lists.
 module _ (extensions : List (ℕ × List (ℕ × ℕ))) (ids : List ℕ) (P : ℕ → Type 0) (z : ℕ × ℕ) (x : ℕ × List (ℕ × ℕ))
     (i : ℕ) (is : x ≡ extension_at extensions (slice_index ids i)) {B D : Type 0}
-    (before : B ↔ (D ⊎ SomeBelow (IsBeside extensions ids P z) i)) where
-  pub beside_skip : (P x.0 → ⊥) → B ↔ (D ⊎ SomeBelow (IsBeside extensions ids P z) (i + 1))
-  beside_skip none = search (rules, up_to_more (IsBeside extensions ids P z) i)
+    (before : B ↔ (D ⊎ SomeBelow (IsExtra extensions ids P z) i)) where
+  pub extra_skip : (P x.0 → ⊥) → B ↔ (D ⊎ SomeBelow (IsExtra extensions ids P z) (i + 1))
+  extra_skip none = search (rules, up_to_more (IsExtra extensions ids P z) i)
 
-  pub beside_more : {A : Type 0} → P x.0 → A ↔ (B ⊎ Contains x.1 z) →
-      A ↔ (D ⊎ SomeBelow (IsBeside extensions ids P z) (i + 1))
-  beside_more p now = search (rules, up_to_more (IsBeside extensions ids P z) i)
+  pub extra_more : {A : Type 0} → P x.0 → A ↔ (B ⊎ Contains x.1 z) →
+      A ↔ (D ⊎ SomeBelow (IsExtra extensions ids P z) (i + 1))
+  extra_more p now = search (rules, up_to_more (IsExtra extensions ids P z) i)
 
 -- `is_lacking` is true if the pair z is not in the list.
 abbrev pub is_lacking : List (ℕ × ℕ) → ℕ × ℕ → Bool

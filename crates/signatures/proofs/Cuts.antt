@@ -47,7 +47,7 @@ module _ (list : List (ℕ × ℕ)) where
       omega (arith, parts, same)
 
   at_odd : (c : ℕ) (is : IsCut list c) → c ≡ (2 * (c / 2 ^ (is.bit + 1)) + 1) * 2 ^ is.bit
-  at_odd c is = search (rules, odd, is.bit, is.alike.multiple, is.below, is.above, is.alike.alike)
+  at_odd c is = search (rules, odd, is.alike.multiple, is.below, is.above, is.alike.alike)
 
   pub cut_unique : (c d : ℕ) → IsCut list c → IsCut list d → c ≡ d
   cut_unique c d first second = elim (cases_order first.bit second.bit) [

@@ -12,9 +12,9 @@ use Rattle.signatures.specs.Hashed.{fingerprint_of}
 use Rattle.signatures.specs.Cuts.{Fit, IsParted}
 use Rattle.signatures.specs.Extensions.{ShareNone}
 use Rattle.signatures.specs.Unions.{Unites}
-use Rattle.signatures.proofs.Rising.{pair_Decides, here, there, rising_unique}
-use Rattle.signatures.proofs.Merging.{merged_has, merged_rises}
-use Rattle.signatures.proofs.Keys.{halves_rise, parts_both}
+use Rattle.signatures.proofs.Ascending.{pair_Decides, here, there, ascending_unique}
+use Rattle.signatures.proofs.Merging.{merged_has, merged_ascending}
+use Rattle.signatures.proofs.Keys.{halves_ascending, parts_both}
 use Rattle.signatures.proofs.Uniting.{united, united_under, united_over, unites_merged}
 use native.Mathlib.Nat.{add-mod}
 
@@ -53,8 +53,8 @@ fingerprint_merged xs ys apart =
 -- order. Then this list is the merge of the two other lists.
 pub unites_is_merged : (list few base : List (ℕ × ℕ)) → IsStrictlySortedBy pair_cmp list
     → IsStrictlySortedBy pair_cmp few → IsStrictlySortedBy pair_cmp base → Unites list few base → list ≡ merged base few
-unites_is_merged list few base rise rise_few rise_base unites =
-    rising_unique list (merged base few) rise (merged_rises base few rise_base rise_few)
+unites_is_merged list few base ascending ascending_few ascending_base unites =
+    ascending_unique list (merged base few) ascending (merged_ascending base few ascending_base ascending_few)
     (λ z. grind (arith, merged_has z base few, unites z))
 
 pub merged_fit : (xs ys : List (ℕ × ℕ)) → Fit xs → Fit ys → Fit (merged xs ys)
@@ -68,13 +68,13 @@ pub merged_halves : {list few below above below' above' : List (ℕ × ℕ)} {c 
     → IsParted few c below' above'
     → IsStrictlySortedBy pair_cmp list → IsStrictlySortedBy pair_cmp few → Fit list → Fit few
     → merged below below' ++ merged above above' ≡ merged list few
-merged_halves {list} {few} {below} {above} {below'} {above'} {c} first second rise rise' fit fit' =
-    let one = parts_both first rise fit in
-    let two = parts_both second rise' fit' in
+merged_halves {list} {few} {below} {above} {below'} {above'} {c} first second ascending ascending' fit fit' =
+    let one = parts_both first ascending fit in
+    let two = parts_both second ascending' fit' in
     let low = unites_merged _ below below' refl in
     let high = unites_merged _ above above' refl in
     unites_is_merged (merged below below' ++ merged above above') few list
-    (halves_rise _ _ c (merged_rises below below' one.0.0 two.0.0) (merged_rises above above' one.1.0 two.1.0)
+    (halves_ascending _ _ c (merged_ascending _ _ one.0.0 two.0.0) (merged_ascending _ _ one.1.0 two.1.0)
     (merged_fit below below' one.0.1 two.0.1) (merged_fit above above' one.1.1 two.1.1)
     (united_under second first _ _ low high) (united_over second first _ _ low high))
-    rise' rise (united second first _ _ low high)
+    ascending' ascending (united second first _ _ low high)

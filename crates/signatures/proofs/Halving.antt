@@ -3,8 +3,8 @@
 -- point, and the second half has all other pairs. The split point depends only on the first and the last pair of the
 -- list. These lemmas also show under which conditions two interned lists are the halves of a list, and that no two
 -- other interned lists are the halves of this list.
-use Rattle.std.proofs.Common.{rules, ◌≡◌, ℕ, ◌-◌, ◌<◌, ◌≤◌, List, [], ◌++◌, length, get_or, Contains, inl, inr, arith}
-use Rattle.std.proofs.Common.{min, max}
+use Rattle.std.proofs.Common.{rules, ◌≡◌, ℕ, ◌-◌, ◌<◌, ◌≤◌, List, [], ◌++◌, length, get_or, Contains, min, max, ⊎_elim}
+use Rattle.std.proofs.Common.{arith}
 use Rattle.std.specs.List.Sorted.{IsStrictlySortedBy}
 use Rattle.std.proofs.lemmas.List.{length-append, get_or_default}
 use Rattle.std.proofs.lemmas.List.Elements.{Contains-get_or}
@@ -16,8 +16,8 @@ use Rattle.signatures.specs.Hashed.{AreDifferent}
 use Rattle.signatures.specs.Unions.{Unites}
 use Rattle.std.proofs.lemmas.Bool.{cases_lt}
 use Rattle.signatures.proofs.Cuts.{alike_within, cut_unique}
-use Rattle.signatures.proofs.Keys.{rising_keys, key_from_less, below_has, above_has}
-use Rattle.signatures.proofs.Rising.{rising_unique}
+use Rattle.signatures.proofs.Keys.{ascending_keys, key_from_less, below_has, above_has}
+use Rattle.signatures.proofs.Ascending.{ascending_unique}
 use Rattle.std.proofs.lemmas.Map.Keys.{Less-from_sorted}
 
 -- `HasEnds` holds under two conditions, in which each pair is represented by a number (`pair_value`). First, the list
@@ -35,7 +35,7 @@ pub record HasEnds (list : List (ℕ × ℕ)) (low high : ℕ) : Type 0 where
 -- first pair of the list, and let `high` be the number for its last pair. Then the number for each pair of the list is
 -- at least `low` and at most `high`, and the list satisfies `HasEnds` with `low` and `high`. If the list has more than
 -- one pair, `low` is less than `high`.
-module _ (list : List (ℕ × ℕ)) (rise : IsStrictlySortedBy pair_cmp list) (fit : Fit list) (some : 0 < length list)
+module _ (list : List (ℕ × ℕ)) (ascending : IsStrictlySortedBy pair_cmp list) (fit : Fit list) (some : 0 < length list)
     {low high : ℕ} (low_is : low ≡ pair_value (get_or list 0 (0, 0)))
     (high_is : high ≡ pair_value (get_or list (length list - 1) (0, 0))) where
   has_first : Contains list (get_or list 0 (0, 0))
@@ -46,7 +46,7 @@ module _ (list : List (ℕ × ℕ)) (rise : IsStrictlySortedBy pair_cmp list) (f
 
   keys_between : (z : ℕ × ℕ) → Contains list z → (low ≤ pair_value z) × (pair_value z ≤ high)
   keys_between z (k, low', is) =
-      let keys = rising_keys list rise fit in
+      let keys = ascending_keys list ascending fit in
       let at = get_or_default list k (0, 0) z in
       grind (arith, at, keys 0 k (0, 0), keys k (length list - 1) (0, 0), is, low_is, high_is, low')
 
@@ -54,7 +54,7 @@ module _ (list : List (ℕ × ℕ)) (rise : IsStrictlySortedBy pair_cmp list) (f
   first_before_last many =
       let key =
       key_from_less (get_or list 0 (0, 0)) (get_or list (length list - 1) (0, 0)) (fit _ has_first) (fit _ has_last)
-      (Less-from_sorted pair_cmp list 0 (length list - 1) (0, 0) rise (omega arith) (omega arith)) in
+      (Less-from_sorted pair_cmp list 0 (length list - 1) (0, 0) ascending (omega arith) (omega arith)) in
       omega arith
 
   pub ends_pairs : HasEnds list low high
@@ -87,10 +87,7 @@ HasEnds-union {list} {xs} {ys} {low} {high} {low'} {high'} first second unites =
   alike = λ bit l h c place under over.
       let one = first.alike bit l h c place (omega arith) (omega arith) in
       let two = second.alike bit l h c place (omega arith) (omega arith) in
-      record {
-        multiple = place.multiple;
-        alike = λ z d. elim ((unites z).0 d) [ inl a ↦ one.alike z a | inr b ↦ two.alike z b ];
-      };
+      record { multiple = place.multiple; alike = λ z d. ⊎_elim (one.alike z) (two.alike z) ((unites z).0 d) };
 }
 
 -- Suppose that a list has more than 64 pairs (`MOST_WHOLE`). Suppose also that the split point of the list, which is
@@ -112,9 +109,9 @@ module _ (lists : List (List (ℕ × ℕ))) (stored : AreStored lists) (differen
       let cut : g.cut ≡ h.cut = cut_unique list g.cut h.cut (rw e at in_g.halves.at_cut) in_h.halves.at_cut in
       let one : IsParted list g.cut (list_at lists g.below) (list_at lists g.above) = search rules in
       let two : IsParted list g.cut (list_at lists h.below) (list_at lists h.above) = search rules in
-      let rise = λ (k : ℕ) (low : k < length lists). stored.rise k [] low in
-      let below = different g.below h.below in_g.below in_h.below (rising_unique _ _ (rise _ in_g.below)
-      (rise _ in_h.below) (λ z. grind (arith, below_has one z, below_has two z))) in
-      let above = different g.above h.above in_g.above in_h.above (rising_unique _ _ (rise _ in_g.above)
-      (rise _ in_h.above) (λ z. grind (arith, above_has one z, above_has two z))) in
+      let ascending = λ (k : ℕ) (low : k < length lists). stored.ascending k [] low in
+      let below = different g.below h.below in_g.below in_h.below (ascending_unique _ _ (ascending _ in_g.below)
+      (ascending _ in_h.below) (λ z. grind (arith, below_has one z, below_has two z))) in
+      let above = different g.above h.above in_g.above in_h.above (ascending_unique _ _ (ascending _ in_g.above)
+      (ascending _ in_h.above) (λ z. grind (arith, above_has one z, above_has two z))) in
       (λ i. record { below = below i; above = above i; cut = cut i })

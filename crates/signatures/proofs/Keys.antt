@@ -13,7 +13,7 @@ use Rattle.std.proofs.lemmas.List.{places, take-append-drop, length-drop, length
 use Rattle.std.proofs.lemmas.List.{get_or-append-add}
 use Rattle.signatures.specs.Cuts.{pair_value, Fit, IsUnder, IsOver, IsCut, IsParted}
 use Rattle.signatures.specs.Lists.{pair_cmp}
-use Rattle.signatures.proofs.Rising.{pair_total, here, there, rising_cons, rising_first}
+use Rattle.signatures.proofs.Ascending.{pair_total, here, there, ascending_cons, ascending_first}
 use Rattle.std.proofs.lemmas.Map.Keys.{sorted_from_all_adjacent, sorted_tail, Less-from_sorted}
 
 pub less_from_key : (x y : ℕ × ℕ) → x.1 < 2 ^ 32 → y.1 < 2 ^ 32 → pair_value x < pair_value y → pair_cmp x y ≡ Less
@@ -32,26 +32,26 @@ halves_has below above z =
 -- the second component of each of their pairs is less than 2^32 (`Fit`). Suppose also that all pairs of the first list
 -- are less than c, and that all pairs of the second list are at least c. Then the first list followed by the second
 -- list is in strictly ascending order.
-pub halves_rise : (below above : List (ℕ × ℕ)) (c : ℕ) → IsStrictlySortedBy pair_cmp below
+pub halves_ascending : (below above : List (ℕ × ℕ)) (c : ℕ) → IsStrictlySortedBy pair_cmp below
     → IsStrictlySortedBy pair_cmp above → Fit below → Fit above
     → IsUnder below c → IsOver above c → IsStrictlySortedBy pair_cmp (below ++ above)
-halves_rise [] above c rise_below rise_above fit_below fit_above under over = rise_above
-halves_rise (x ∷ xs) above c rise_below rise_above fit_below fit_above under over =
-    rising_cons pair_total x (xs ++ above) (λ y d.
-    let first = rising_first pair_total x xs rise_below y in
+halves_ascending [] above c ascending_below ascending_above fit_below fit_above under over = ascending_above
+halves_ascending (x ∷ xs) above c ascending_below ascending_above fit_below fit_above under over =
+    ascending_cons pair_total x (xs ++ above) (λ y d.
+    let first = ascending_first pair_total x xs ascending_below y in
     let less = less_from_key x y (fit_below x (here x xs)) in
     grind (arith, Contains-append_cases xs above y d, over y, fit_above y, first, under x (here x xs), less))
-    (halves_rise xs above c (sorted_tail pair_cmp x xs rise_below) rise_above
+    (halves_ascending xs above c (sorted_tail pair_cmp x xs ascending_below) ascending_above
     (λ z d. fit_below z (there x xs z d)) fit_above (λ z d. under z (there x xs z d)) over)
 
 -- Suppose that a list is in strictly ascending order, and that the second component of each of its pairs is less than
 -- 2^32 (`Fit`). Then the numbers that represent its pairs (`pair_value`) are in ascending order.
-pub rising_keys : (list : List (ℕ × ℕ)) → IsStrictlySortedBy pair_cmp list → Fit list
+pub ascending_keys : (list : List (ℕ × ℕ)) → IsStrictlySortedBy pair_cmp list → Fit list
     → IsNonDecreasingBy pair_value list
-rising_keys list rise fit i j d low high =
+ascending_keys list ascending fit i j d low high =
     let key = key_from_less (get_or list i d) (get_or list j d) (fit _ (Contains-get_or list i d (omega arith)))
     (fit _ (Contains-get_or list j d high)) in
-    grind (arith, cases_eq i j, Less-from_sorted pair_cmp list i j d rise, key, low, high)
+    grind (arith, cases_eq i j, Less-from_sorted pair_cmp list i j d ascending, key, low, high)
 
 -- Each pair is represented by a number (`pair_value`). Suppose that the first i pairs of a list are less than c, and
 -- that all other pairs of the list are at least c. Then the number c divides the list into its first i pairs and its
@@ -63,13 +63,13 @@ parted_is list c i within point = search (rules, take-append-drop, get_or-take, 
 
 -- If the list xs followed by the list ys is in strictly ascending order, then both xs and ys are in strictly ascending
 -- order.
-rising_both : (xs ys : List (ℕ × ℕ)) → IsStrictlySortedBy pair_cmp (xs ++ ys)
+ascending_both : (xs ys : List (ℕ × ℕ)) → IsStrictlySortedBy pair_cmp (xs ++ ys)
     → IsStrictlySortedBy pair_cmp xs × IsStrictlySortedBy pair_cmp ys
-rising_both xs ys rise = (
-  sorted_from_all_adjacent pair_total xs (0, 0) (λ k low. search (rules, places, Less-from_sorted, rise)),
+ascending_both xs ys ascending = (
+  sorted_from_all_adjacent pair_total xs (0, 0) (λ k low. search (rules, places, Less-from_sorted, ascending)),
   sorted_from_all_adjacent pair_total ys (0, 0) (λ k low.
       rw (← get_or-append-add xs ys k (0, 0), ← get_or-append-add xs ys (k + 1) (0, 0))
-      (Less-from_sorted pair_cmp (xs ++ ys) _ _ (0, 0) rise (omega arith) (omega (arith, length-append xs ys)))),
+      (Less-from_sorted pair_cmp (xs ++ ys) _ _ (0, 0) ascending (omega arith) (omega (arith, length-append xs ys)))),
 )
 
 -- Suppose that a number divides a list of pairs into two parts: the pairs that are less than this number, and the other
@@ -81,8 +81,8 @@ module _ {list below above : List (ℕ × ℕ)} {c : ℕ} (parted : IsParted lis
 
   pub parts_both : IsStrictlySortedBy pair_cmp list → Fit list
       → (IsStrictlySortedBy pair_cmp below × Fit below) × (IsStrictlySortedBy pair_cmp above × Fit above)
-  parts_both rise fit =
-      let both = rising_both below above (rw parted.joined at rise) in
+  parts_both ascending fit =
+      let both = ascending_both below above (rw parted.joined at ascending) in
       ((both.0, λ z d. fit z ((parts_has z).1 (inl d))), (both.1, λ z d. fit z ((parts_has z).1 (inr d))))
 
   pub below_has : (z : ℕ × ℕ) → Contains below z ↔ (Contains list z × (pair_value z < c))
@@ -95,6 +95,4 @@ module _ {list below above : List (ℕ × ℕ)} {c : ℕ} (parted : IsParted lis
   -- pairs than the list.
   pub parts_shorter : IsCut list c → (length below < length list) × (length above < length list)
   parts_shorter cut =
-      let low = below_has cut.below.0 in
-      let high = above_has cut.above.0 in
-      grind (arith, low, high, cut.below, cut.above, parted.joined, length-append)
+      grind (arith, below_has cut.below.0, above_has cut.above.0, cut.below, cut.above, parted.joined, length-append)

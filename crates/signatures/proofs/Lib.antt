@@ -1,5 +1,5 @@
 pub mod CallerLemmas
-pub mod Rising
+pub mod Ascending
 pub mod Merging
 pub mod Cuts
 pub mod Places

@@ -20,9 +20,9 @@ use Rattle.signatures.proofs.Joining.{Grow-same}
 use Rattle.signatures.proofs.Keeping.{map_same}
 use Rattle.signatures.proofs.Storing.{list-old, list-new}
 use Rattle.std_collections.proofs.SortedSets.{length_union}
-use Rattle.signatures.proofs.Merging.{merged_nil, merged_has, merged_rises}
+use Rattle.signatures.proofs.Merging.{merged_nil, merged_has, merged_ascending}
 use Rattle.signatures.proofs.Extending.{unites_is_merged}
-use Rattle.signatures.proofs.Rising.{rising_unique}
+use Rattle.signatures.proofs.Ascending.{ascending_unique}
 
 -- A list is stored as a base, which is a list of pairs that several lists can share, and as extra pairs, which the base
 -- lacks. The bases are stored in the trie. Suppose that lists are added to the trie. Then each list that is stored in
@@ -67,7 +67,7 @@ pub same_base : (trie : List (List (ℕ × ℕ))) (x y : ℕ × List (ℕ × ℕ
     → IsExtension trie y → x.0 ≡ y.0 → (x.1 ≡ y.1) ↔ (extended trie x ≡ extended trie y)
 same_base trie x y is is' e = (
   λ f. cc,
-  λ f. rising_unique _ _ is.ascending is'.ascending (λ z.
+  λ f. ascending_unique _ _ is.ascending is'.ascending (λ z.
       let one = merged_has z (list_at trie x.0) x.1 in
       let two = merged_has z (list_at trie y.0) y.1 in
       grind (arith, one, two, f, e, is.apart z, is'.apart z)),
@@ -80,7 +80,7 @@ pub whole_is : (trie new : List (List (ℕ × ℕ))) (x : ℕ × List (ℕ × �
     → IsExtension trie x → i < length new
     → Unites (list_at new i) x.1 (list_at trie x.0) → list_at new i ≡ extended trie x
 whole_is trie new x i stored stored' is low unites =
-    unites_is_merged _ x.1 _ (stored'.rise i [] low) is.ascending (stored.rise x.0 [] is.base) unites
+    unites_is_merged _ x.1 _ (stored'.ascending i [] low) is.ascending (stored.ascending x.0 [] is.base) unites
 
 -- Each list of the table has a tag, which is a hash of 32 bits. The number of tags equals the number of lists.
 pub tags_size : {trie : List (List (ℕ × ℕ))} {extensions : List (ℕ × List (ℕ × ℕ))} {tags : List ℕ}
@@ -122,9 +122,9 @@ pub AreLists-extended : {trie : List (List (ℕ × ℕ))} {extensions : List (�
     → AreStored trie
     → AreExtended trie extensions tags → length tags ≤ MOST_LISTS → AreLists (extended_lists trie extensions)
 AreLists-extended {trie} {extensions} {tags} stored are few =
-    let rise : All (IsStrictlySortedBy pair_cmp) (extended_lists trie extensions) =
+    let ascending : All (IsStrictlySortedBy pair_cmp) (extended_lists trie extensions) =
     All-map (IsStrictlySortedBy pair_cmp) (extended trie) extensions (All-weaker (IsExtension trie) _
-    (λ x is. merged_rises _ _ (stored.rise x.0 [] is.base) is.ascending) extensions are.each) in
+    (λ x is. merged_ascending _ _ (stored.ascending x.0 [] is.base) is.ascending) extensions are.each) in
     search (rules, length-map, tags_size, first_is, stored, are)
 
 -- A list is stored as a base, which is a list of pairs that several lists can share, and as extra pairs, which the base

@@ -15,9 +15,6 @@ same_from_xor : (a b : ℕ) → bit_xor a b ≡ 0 → a ≡ b
 same_from_xor a b none =
     same_from_bits a b (λ i. grind (arith, bit_at_xor a b i, none, bit_at-zero i, bit_at-lt a i, bit_at-lt b i))
 
-xor_pos : (a b : ℕ) → a < b → 0 < bit_xor a b
-xor_pos a b below = search (rules, same_from_xor)
-
 IsCutPoint-highest : (low high bit : ℕ) → low < high → 2 ^ bit ≤ bit_xor low high → bit_xor low high < 2 ^ (bit + 1)
     → IsCutPoint bit low high (high / 2 ^ bit * 2 ^ bit)
 IsCutPoint-highest low high bit before reaches below =
@@ -35,7 +32,7 @@ IsCutPoint-highest low high bit before reaches below =
 module _ (low high : ℕ) (before : low < high) (fits : high < 2 ^ 64) where
   top : (bit : ℕ) × (count_leading_zeros 64 (bit_xor low high) + suc bit ≡ 64) × (2 ^ bit ≤ bit_xor low high)
       × (bit_xor low high < 2 ^ suc bit)
-  top = leading_top 64 (bit_xor low high) (xor_pos low high before) (xor_lt 64 low high (omega arith) fits)
+  top = leading_top 64 (bit_xor low high) (search (rules, same_from_xor)) (xor_lt 64 low high (omega arith) fits)
 
   pub leading_few : count_leading_zeros 64 (bit_xor low high) ≤ 63
   leading_few = let h = top.1 in omega arith

@@ -11,8 +11,8 @@ use Rattle.signatures.specs.declared.nodes.{Halves.Halves, Node.Node, Shape.Shap
 use Rattle.signatures.specs.declared.nodes.TheConstants.{MOST_WHOLE, MOST_LISTS}
 use Rattle.signatures.specs.declared.nodes.Node.TheVariants.{Whole, Halved}
 use Rattle.signatures.specs.declared.nodes.Shape.TheVariants.{Whole as Pairs, Halved as Cut}
-use Rattle.signatures.proofs.Rising.{rising_none}
-use Rattle.signatures.proofs.Keys.{halves_rise, halves_has}
+use Rattle.signatures.proofs.Ascending.{ascending_none}
+use Rattle.signatures.proofs.Keys.{halves_ascending, halves_has}
 use Rattle.signatures.proofs.Keeping.{slice_range-append, slice_range-last, length-part}
 use Rattle.signatures.specs.Lists.{pair_cmp, list_at, Grow}
 use Rattle.signatures.specs.Cuts.{Fit}
@@ -51,7 +51,7 @@ AreStored-push lists list are few ascending fits long =
     let longer = length_push lists list in
     let some = are.some in
     record {
-      rise = All-push (IsStrictlySortedBy pair_cmp) lists list are.rise ascending;
+      ascending = All-push (IsStrictlySortedBy pair_cmp) lists list are.ascending ascending;
       fit = All-push Fit lists list are.fit fits;
       halved = search (rules, cases_lt, are.halved, list-old, IsHalved-grow, Grow-push, list-new);
       some = omega arith;
@@ -149,7 +149,7 @@ unfolding lists_to
 lists-first = refl
 
 pub AreNodes-first : AreNodes [] (Whole 0 0 ∷ [])
-AreNodes-first = search (rules, lists-first, rising_none)
+AreNodes-first = search (rules, lists-first, ascending_none)
 
 -- Each node stores one list, and the first node stores the empty list. So if all nodes except for the first are
 -- removed, only the node of the empty list remains.
@@ -187,11 +187,10 @@ module _ (pairs new : List (ℕ × ℕ)) (nodes : List Node) (node : Node) (are 
       rw (next.0, next.1) (AreNodes-push pairs l.now nodes _ are few (rw whole suits.ascending) (rw whole suits.fit)
       (omega (arith, longer), omega (arith, suits.few)))
   AreNodes-next (Cut h) next few suits =
-      let rise = λ (k : ℕ) (low : k < length lists). are.stored.rise k [] low in
       let fit = λ (k : ℕ) (low : k < length lists). are.stored.fit k [] low in
       let has = halves_has (list_at lists h.below) (list_at lists h.above) in
       rw (next.0, next.1) (rw (append-nil pairs) at (AreNodes-push pairs [] nodes (Halved h) are few
-      (halves_rise _ _ h.cut (rise _ suits.below) (rise _ suits.above) (fit _ suits.below) (fit _ suits.above)
-      suits.halves.under suits.halves.over) (λ z d. grind (arith, has z, fit _ suits.below z, fit _ suits.above z))
+      (search (rules, halves_ascending, are.stored.ascending))
+      (λ z d. grind (arith, has z, fit _ suits.below z, fit _ suits.above z))
       (subst (λ n. IsHalved (lists ++ (list_at lists h.below ++ list_at lists h.above) ∷ []) n h)
       (length-lists pairs nodes) (search (rules, list-old, list-new)))))

@@ -12,8 +12,8 @@ use Rattle.signatures.proofs.Joining.{or_swap}
 pub if_both : {X E : Type 0} (r : Result X E) (P Q : X → Type 0) → IfOk r P → IfOk r Q → IfOk r (λ x. P x × Q x)
 if_both r P Q p q = grind arith
 
-pub none_noted : (unions : List Union) (n : ℕ) → unions ≡ replicate n NO_UNION → All IsNone (map union_entry unions)
-none_noted unions n e =
+pub none_stored : (unions : List Union) (n : ℕ) → unions ≡ replicate n NO_UNION → All IsNone (map union_entry unions)
+none_stored unions n e =
     rw e (All-map IsNone union_entry _ (All-replicate (λ u. IsNone (union_entry u)) n NO_UNION refl))
 
 -- Suppose that one slot of the union cache is overwritten with a new entry. Then each entry that is in the cache after
@@ -42,7 +42,7 @@ IsUnion-in_order lists j k i = elim (cases_lt j k) [
 -- An entry of the union cache has the IDs of two lists and the ID of their union. Suppose that each entry of the cache
 -- is correct (`IsUnion`). If a correct entry is stored in the cache, each entry is still correct, even if old entries
 -- are removed.
-pub AreUnions-note : {lists : List (List (ℕ × ℕ))} (unions noted : List ((ℕ × ℕ) × ℕ)) (key : ℕ × ℕ) (i : ℕ)
+pub AreUnions-store : {lists : List (List (ℕ × ℕ))} (unions stored : List ((ℕ × ℕ) × ℕ)) (key : ℕ × ℕ) (i : ℕ)
     → AreUnions lists unions → IsUnion lists key i
-    → ((z : (ℕ × ℕ) × ℕ) → Contains noted z → Contains unions z ⊎ IsNone z ⊎ (z ≡ (key, i))) → AreUnions lists noted
-AreUnions-note unions noted key i are is from z d = search (rules, from z d, are z, is.within, IsUnion-none)
+    → ((z : (ℕ × ℕ) × ℕ) → Contains stored z → Contains unions z ⊎ IsNone z ⊎ (z ≡ (key, i))) → AreUnions lists stored
+AreUnions-store unions stored key i are is from z d = search (rules, from z d, are z, is.within, IsUnion-none)

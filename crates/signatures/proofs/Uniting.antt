@@ -16,7 +16,7 @@ use Rattle.signatures.proofs.Keys.{halves_has, parts_has, parts_shorter}
 use Rattle.signatures.proofs.Halving.{HasEnds, IsCut-ends, HasEnds-union, AreHalvesIn-parts}
 use Rattle.signatures.proofs.Merging.{merged_has}
 use Rattle.signatures.proofs.Joining.{or_swap}
-use Rattle.signatures.proofs.Rising.{rising_fewer}
+use Rattle.signatures.proofs.Ascending.{ascending_fewer}
 
 -- Each pair is represented by a number (`pair_value`). If the numbers for all pairs of a list are less than c, then c
 -- divides the list into the whole list and the empty list. If the numbers for all pairs are at least c, then c divides
@@ -102,10 +102,10 @@ module _ {xs ys below above below' above' : List (ℕ × ℕ)} {c : ℕ} (first 
       → IsStrictlySortedBy pair_cmp ys → MOST_WHOLE < length ys
       → ((list : List (ℕ × ℕ)) → Unites list xs ys → IsCut list c)
       → AreUnited new (record { below = b; above = a; cut = c }) xs ys
-  AreUnited-parts {new} {b} {a} grow low_in lower high_in high rise long cut =
+  AreUnited-parts {new} {b} {a} grow low_in lower high_in high ascending long cut =
       let low = subst (λ l. Unites l below below') (sym (grow.same b low_in)) lower in
       let all = united _ _ low high in
-      let fewer = rising_fewer ys _ rise (λ z d. (all z).1 (inr d)) in
+      let fewer = ascending_fewer ys _ ascending (λ z d. (all z).1 (inr d)) in
       let parted = united_parted _ _ low high in
       (AreHalvesIn-parts (omega (arith, grow.longer)) high_in parted (cut _ all) (omega arith), all)
 

@@ -24,7 +24,7 @@ merged = sorted_merge pair_cmp true
 -- ascending order. Third, there are at most 2^32 - 1 lists (`MOST_LISTS`), so that each ID fits into 32 bits. Fourth,
 -- the list with the ID 0 is the empty list.
 pub record AreLists (lists : List (List (ℕ × ℕ))) : Type 0 where
-  pub rise : All (IsStrictlySortedBy pair_cmp) lists
+  pub ascending : All (IsStrictlySortedBy pair_cmp) lists
   pub some : 1 ≤ length lists
   pub few : length lists ≤ MOST_LISTS
   pub first : list_at lists 0 ≡ []

@@ -63,7 +63,7 @@ lists_of_nodes pairs nodes = lists_to pairs nodes (length nodes)
 -- (`MOST_WHOLE`), the two halves of the list are also stored (`IsHalved`). Fourth, there are at most 2^32 - 1 lists
 -- (`MOST_LISTS`), so that each ID fits into 32 bits. Fifth, the list with the ID 0 is empty.
 pub record AreStored (lists : List (List (ℕ × ℕ))) : Type 0 where
-  pub rise : All (IsStrictlySortedBy pair_cmp) lists
+  pub ascending : All (IsStrictlySortedBy pair_cmp) lists
   pub fit : All Fit lists
   pub halved : (k : ℕ) → k < length lists → MOST_WHOLE < length (list_at lists k) → (h : Halves) × IsHalved lists k h
   pub some : 1 ≤ length lists

@@ -96,5 +96,5 @@ module _ (items : List Item) (signatures : List (List (ℕ × ℕ))) (signature_
     within = within;
     grow = grow;
     exactly = λ z. (λ c. given z ((exactly z).0 c), λ (x, c, g). (exactly z).1 (gives z x c g));
-    ascending = are.rise k [] within;
+    ascending = are.ascending k [] within;
   }

@@ -1,4 +1,4 @@
-use Rattle.std.proofs.Common.{rules, ◌≡◌, length, arith, below_more}
+use Rattle.std.proofs.Common.{rules, arith, below_more}
 use Rattle.std.proofs.lemmas.List.{get_or_default}
 use Rattle.signatures.proofs.interner.has_lists.Goals as goal
 
@@ -9,6 +9,4 @@ pub loop-j-preserved : goal.loop-j-preserved
 loop-j-preserved c = below_more _ _ c.loop-j.invariant (λ z d. search rules)
 
 pub returns : goal.returns
-returns c t i d low z has =
-    let end : c.loop-j.j-index ≡ length c.args.ids.now = omega arith in
-    c.loop-j.invariant i (omega (arith, low, end)) z (rw (get_or_default _ i 0 d low) has)
+returns c t i d low z has = c.loop-j.invariant i (omega arith) z (rw (get_or_default _ i 0 d low) has)

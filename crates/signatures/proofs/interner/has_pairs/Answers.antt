@@ -1,4 +1,4 @@
-use Rattle.std.proofs.Common.{rules, ◌≡◌, length, refl, arith, below_more}
+use Rattle.std.proofs.Common.{rules, refl, arith, below_more}
 use Rattle.std.proofs.lemmas.List.{get_or_default}
 use Rattle.signatures.proofs.interner.has_pairs.Goals as goal
 
@@ -6,8 +6,4 @@ pub loop-pair-preserved : goal.loop-pair-preserved
 loop-pair-preserved c = below_more _ _ c.loop-pair.invariant (search rules)
 
 pub returns : goal.returns
-returns c =
-    let end : c.loop-pair.pair-index ≡ length c.args.pairs.now = omega arith in (
-      λ t i d low. rw (get_or_default _ i d (0, 0) low) (c.loop-pair.invariant i (omega (arith, low, end))),
-      λ _. refl,
-    )
+returns c = (λ t i d low. rw (get_or_default _ i d (0, 0) low) (c.loop-pair.invariant i (omega arith)), λ _. refl)

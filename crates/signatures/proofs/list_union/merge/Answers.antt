@@ -4,34 +4,30 @@ use Rattle.std.proofs.lemmas.Bool.{both_ways}
 use Rattle.signatures.specs.Lists.{pair_cmp, merged}
 use Rattle.signatures.specs.Extensions.{parts_of}
 use Rattle.signatures.proofs.Joining.{or_swap}
-use Rattle.signatures.proofs.Collecting.{beside_skip, beside_more}
-use Rattle.signatures.proofs.Merging.{merged_has, merged_rises}
+use Rattle.signatures.proofs.Collecting.{extra_skip, extra_more}
+use Rattle.signatures.proofs.Merging.{merged_has, merged_ascending}
 use Rattle.signatures.proofs.list_union.merge.Goals as goal
-use Rattle.signatures.proofs.list_union.merge.Goals.{After-swap}
 
 pub loop-k-preserved-then-not-is_own : goal.loop-k-preserved-then-not-is_own
 loop-k-preserved-then-not-is_own c = record {
   ascending = c.loop-k.invariant.ascending;
   come = λ z.
-      beside_skip c.args.extensions.now c.args.ids.now (λ b. c.args.own ≡ Some b) z (parts_of c.of-list.result)
+      extra_skip c.args.extensions.now c.args.ids.now (λ b. c.args.own ≡ Some b) z (parts_of c.of-list.result)
       c.loop-k.k-index c.of-list.ensures (c.loop-k.invariant.come z)
       (λ own. both_ways _ c.if-not-is_own.true (c.is_own.ensures.1 own));
 }
 
 -- After the call of `swap`, the vector `pairs` has the result of the last merge.
-now_are : (c : After-swap) → c.swap.new.y.items ≡ merged c.of-list.result.extra.now c.loop-k.pairs.items
-now_are c = search rules
-
 pub loop-k-preserved : goal.loop-k-preserved
 loop-k-preserved c =
-    let is = now_are ((goal.at.loop-k-preserved c).After-swap) in
+    let is : c.swap.new.y.items ≡ merged c.of-list.result.extra.now c.loop-k.pairs.items = search rules in
     let x = parts_of c.of-list.result in
     let old = c.loop-k.pairs.items in
     let known = c.requires.ids c.loop-k.k-index 0 c.loop-k-test.true in
-    let rise : IsStrictlySortedBy pair_cmp x.1 = search rules in
+    let ascending : IsStrictlySortedBy pair_cmp x.1 = search rules in
     record {
-      ascending = rw is (merged_rises x.1 old rise c.loop-k.invariant.ascending);
-      come = λ z. rw is (beside_more c.args.extensions.now c.args.ids.now (λ b. c.args.own ≡ Some b) z x
+      ascending = rw is (merged_ascending x.1 old ascending c.loop-k.invariant.ascending);
+      come = λ z. rw is (extra_more c.args.extensions.now c.args.ids.now (λ b. c.args.own ≡ Some b) z x
           c.loop-k.k-index c.of-list.ensures (c.loop-k.invariant.come z) (c.is_own.ensures.0 c.if-not-is_own.false)
           (or_swap (merged_has z x.1 old)));
     }

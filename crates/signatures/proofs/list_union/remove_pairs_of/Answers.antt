@@ -1,6 +1,6 @@
 use Rattle.std.proofs.Common.{◌≡◌, rules, filter}
 use Rattle.std.proofs.lemmas.List.Kept.{IsStrictlySortedBy-filter}
-use Rattle.signatures.proofs.Rising.{has_pair}
+use Rattle.signatures.proofs.Ascending.{has_pair}
 use Rattle.std.proofs.lemmas.Fn.{filter_same}
 use Rattle.signatures.specs.Lists.{list_at}
 use Rattle.signatures.proofs.Collecting.{is_lacking, lack_apart, lack_same}

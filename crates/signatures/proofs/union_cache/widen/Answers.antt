@@ -1,7 +1,7 @@
 use Rattle.std.proofs.Common.{rules}
 use Rattle.std.proofs.lemmas.List.Elements.{All-contains}
-use Rattle.signatures.proofs.UnionCache.{none_noted}
+use Rattle.signatures.proofs.UnionCache.{none_stored}
 use Rattle.signatures.proofs.union_cache.widen.Goals as goal
 
 pub returns-clause-same : goal.returns-clause-same
-returns-clause-same c = search (rules, c.fill.ensures.items, All-contains, none_noted)
+returns-clause-same c = search (rules, c.fill.ensures.items, All-contains, none_stored)

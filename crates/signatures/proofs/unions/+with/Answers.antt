@@ -4,7 +4,7 @@ use Rattle.signatures.specs.Lists.{list_at, merged}
 use Rattle.signatures.proofs.Joining.{Grow-same}
 use Rattle.signatures.proofs.Keys.{parts_both}
 use Rattle.signatures.proofs.Uniting.{AreUnited, AreUnited-parts, parted_grown, parts_fewer, halved_long, unites_merged}
-use Rattle.signatures.proofs.Merging.{merged_rises}
+use Rattle.signatures.proofs.Merging.{merged_ascending}
 use Rattle.signatures.proofs.Extending.{merged_fit}
 use Rattle.signatures.proofs.unions.+with.Goals as goal
 use Rattle.signatures.proofs.unions.+with.Goals.{In_ok-above-in-Halved, After-deref}
@@ -38,7 +38,7 @@ united_in t c =
     let upper = c.in_ok-above-in-Halved.ensures in
     AreUnited-parts is.pairs (parted_grown (Grow-same _) c.with.ensures.grow is.list c.requires.list)
     c.with-in-Halved.ensures.grow lower.within lower.exactly upper.within upper.exactly
-    (c.invariants.ensures.stored.rise c.args.k _ c.requires.list) (halved_long c.in-Halved.ensures) is.cut
+    (c.invariants.ensures.stored.ascending c.args.k _ c.requires.list) (halved_long c.in-Halved.ensures) is.cut
 
 pub intern-requires : goal.intern-requires
 intern-requires t c = (united_in t ((goal.at.intern-requires t c).In_ok-above-in-Halved)).0
@@ -54,7 +54,8 @@ both_are t c = search rules
 
 pub list_of-requires-in-Whole : goal.list_of-requires-in-Whole
 list_of-requires-in-Whole t c = rw (both_are t ((goal.at.list_of-requires-in-Whole t c).After-deref)) (record {
-  ascending = merged_rises _ _ (c.invariants.ensures.stored.rise c.args.k _ c.requires.list) c.requires.ascending;
+  ascending =
+      merged_ascending _ _ (c.invariants.ensures.stored.ascending c.args.k _ c.requires.list) c.requires.ascending;
   fit = merged_fit _ _ (c.invariants.ensures.stored.fit c.args.k [] c.requires.list) c.requires.fit;
 })
 

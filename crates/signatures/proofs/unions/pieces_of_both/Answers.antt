@@ -4,10 +4,8 @@ use Rattle.signatures.proofs.unions.pieces_of_both.Goals as goal
 
 pub returns : goal.returns
 returns c = λ lists stored first second.
-    let bit = c.cut-cut.ensures.0 in
-    let place =
-    placed c.cut-cut.ensures.1 (ends_halves first) (ends_halves second)
-    (omega (arith, c.min.ensures)) c.max.ensures in
+    let (bit, at) = c.cut-cut.ensures in
+    let place = placed at (ends_halves first) (ends_halves second) (omega (arith, c.min.ensures)) c.max.ensures in
     record {
       first = c.split-below.ensures lists stored first bit place.0;
       second = c.split-under.ensures lists stored second bit place.1;

@@ -5,12 +5,8 @@ use Rattle.signatures.proofs.interner.Interner.has.Goals as goal
 
 pub returns-then-has : goal.returns-then-has
 returns-then-has c =
-    let x = parts_of c.of-list.result in
-    let either = has_either _ _ c.self.view_is _ c.requires x c.of-list.ensures c.args.pair in
-    grind (arith, either, c.has.ensures, c.if-has.true)
+    grind (arith, has_either _ _ c.self.view_is _ c.requires (parts_of c.of-list.result) c.of-list.ensures c.args.pair)
 
 pub returns : goal.returns
 returns c =
-    let x = parts_of c.of-list.result in
-    let either = has_either _ _ c.self.view_is _ c.requires x c.of-list.ensures c.args.pair in
-    grind (arith, either, c.has-2.ensures, c.has.ensures, c.if-has.false)
+    grind (arith, has_either _ _ c.self.view_is _ c.requires (parts_of c.of-list.result) c.of-list.ensures c.args.pair)

@@ -1,4 +1,4 @@
-use Rattle.std.proofs.Common.{inl, inr}
+use Rattle.std.proofs.Common.{inl, inr, ⊎_elim}
 use Rattle.signatures.specs.Extensions.{parts_of}
 use Rattle.signatures.proofs.Merging.{merged_has}
 use Rattle.signatures.proofs.Numbering.{has_either}
@@ -9,7 +9,5 @@ returns-then-list-other c t z d =
     let first = has_either _ _ c.self.view_is _ c.requires.list (parts_of c.of-list.result) c.of-list.ensures z in
     let second = has_either _ _ c.self.view_is _ c.requires.other (parts_of c.of-other.result) c.of-other.ensures z in
     let extra = merged_has z c.of-list.result.extra.now c.of-other.result.extra.now in
-    first.1 (elim (second.0 d) [
-      | inl has ↦ inl (rw c.if-list-other.true has)
-      | inr has ↦ inr (rw (c.has_all.ensures.0 t) at (extra.1 (inr has)))
-    ])
+    first.1 (⊎_elim (λ has. inl (rw c.if-list-other.true has))
+    (λ has. inr (rw (c.has_all.ensures.0 t) at (extra.1 (inr has)))) (second.0 d))

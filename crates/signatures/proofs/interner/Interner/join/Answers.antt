@@ -1,12 +1,10 @@
 use Rattle.std.proofs.Common.{◌∙◌, ◌⊎◌, ◌↔◌, Contains, ap, sym, subst}
 use Rattle.std.proofs.lemmas.Result.{IfOk-weaker}
-use Rattle.signatures.specs.Lists.{list_at, merged, Grow}
-use Rattle.signatures.specs.Extensions.{AreExtended, extended_lists}
+use Rattle.signatures.specs.Lists.{list_at, merged}
 use Rattle.signatures.proofs.Merging.{merged_has}
 use Rattle.signatures.proofs.Joining.{Grow-twice, same_as}
 use Rattle.signatures.proofs.Numbering.{AreExtended-grow, Grow-lists}
 use Rattle.signatures.proofs.interner.Interner.join.Goals as goal
-use Rattle.signatures.proofs.interner.Interner.join.Goals.{After-union_of}
 
 -- Suppose that the last of the lists with an ID in `lists` has all pairs of the other lists, and all pairs in `pairs`.
 -- Then this last list is the union of all these lists and of `pairs`.
@@ -15,28 +13,22 @@ returns-in-Some-clause-exactly c z = rw c.deref.ensures.value at (c.in-Some.ensu
 
 -- The call of `union_of` may add lists to the trie, which stores lists of pairs that other lists can share. The lists
 -- of the interner stay the same.
-module _ (c : After-union_of) where
-  extensions : AreExtended c.union_of.new.bases.trie c.self.inside.table.extensions c.self.inside.table.buckets.tags
-  extensions = AreExtended-grow c.union_of.ensures.grow _ _ c.self.invariant
-
-  grown : Grow c.args.self.now (extended_lists c.union_of.new.bases.trie c.self.inside.table.extensions)
-  grown = rw (← c.self.view_is) (Grow-lists c.union_of.ensures.grow _ c.self.invariant.each)
-
 pub invariant_of-self : goal.invariant_of-self
-invariant_of-self c = extensions ((goal.at.invariant_of-self c).After-union_of)
+invariant_of-self c = AreExtended-grow c.union_of.ensures.grow _ _ c.self.invariant
 
 pub returns-in_err-base-clause-grow : goal.returns-in_err-base-clause-grow
-returns-in_err-base-clause-grow c = grown ((goal.at.returns-in_err-base-clause-grow c).After-union_of)
+returns-in_err-base-clause-grow c =
+    rw (← c.self.view_is) (Grow-lists c.union_of.ensures.grow _ c.self.invariant.each)
 
 -- The union is given as a base, which is a list of pairs that several lists can share, and as extra pairs, which the
 -- base lacks. The call of `intern_with` interns the union.
 pub intern_with-requires-clause-extensions : goal.intern_with-requires-clause-extensions
-intern_with-requires-clause-extensions c = extensions
-    ((goal.at.intern_with-requires-clause-extensions c).After-union_of)
+intern_with-requires-clause-extensions c = AreExtended-grow c.union_of.ensures.grow _ _ c.self.invariant
 
 pub returns-clause-grow : goal.returns-clause-grow
 returns-clause-grow c =
-    Grow-twice (grown ((goal.at.returns-clause-grow c).After-union_of)) c.intern_with.ensures.keeps.lists
+    let grown = Grow-lists c.union_of.ensures.grow _ c.self.invariant.each in
+    rw (← c.self.view_is) (Grow-twice grown c.intern_with.ensures.keeps.lists)
 
 pub returns-clause-exactly : goal.returns-clause-exactly
 returns-clause-exactly c =

@@ -1,4 +1,4 @@
-use Rattle.std.proofs.Common.{◌≡◌, ◌∙◌, ◌++◌, ℕ, [], ap, arith}
+use Rattle.std.proofs.Common.{◌∙◌, ◌++◌, [], ap, arith}
 use Rattle.std.proofs.lemmas.Result.{on_ok_weaker, on_err_weaker}
 use Rattle.signatures.specs.Lists.{list_at, merged}
 use Rattle.signatures.proofs.Keys.{parts_both}
@@ -6,7 +6,6 @@ use Rattle.signatures.proofs.Merging.{append_both}
 use Rattle.signatures.proofs.Uniting.{halved_parted}
 use Rattle.signatures.proofs.Extending.{merged_halves}
 use Rattle.signatures.proofs.trie.Trie.+append_with.Goals as goal
-use Rattle.signatures.proofs.trie.Trie.+append_with.Goals.{After-append_with}
 
 pub append_with-requires : goal.append_with-requires
 append_with-requires t c =
@@ -18,22 +17,15 @@ append_with-requires-in-Halved t c =
     let both = (parts_both c.parted.ensures c.requires.ascending c.requires.fit).1 in
     (omega (arith, c.in-Halved.ensures.above), (omega (arith, c.in-Halved.ensures.above), both))
 
-both : (t : ℕ) (c : After-append_with t) →
-    merged (list_at c.args.self.now c.in-Halved.halves.below) c.parted.result.0.now
-    ++ merged (list_at c.args.self.now c.in-Halved.halves.above) c.parted.result.1.now
-    ≡ merged (list_at c.args.self.now c.args.k) c.args.pairs.now
-both t c =
-    let stored = c.invariants.ensures.stored in
-    merged_halves (halved_parted c.in-Halved.ensures) c.parted.ensures
-    (stored.rise c.args.k [] c.requires.list) c.requires.ascending (stored.fit c.args.k [] c.requires.list)
-    c.requires.fit
-
 pub returns-in_ok-append_with-in-Halved-clause-appended : goal.returns-in_ok-append_with-in-Halved-clause-appended
 returns-in_ok-append_with-in-Halved-clause-appended t c =
-    let at = (goal.at.returns-in_ok-append_with-in-Halved-clause-appended t c).After-append_with in
+    let stored = c.invariants.ensures.stored in
+    let both = merged_halves (halved_parted c.in-Halved.ensures) c.parted.ensures
+    (stored.ascending c.args.k [] c.requires.list) c.requires.ascending (stored.fit c.args.k [] c.requires.list)
+    c.requires.fit in
     on_ok_weaker c.append_with-in-Halved.result
     (λ e. append_both _ _ _ c.in_ok-append_with-in-Halved.ensures.appended e
-    ∙ ap (λ l. c.args.out.now.items ++ l) (both t at)) c.append_with-in-Halved.ensures.appended
+    ∙ ap (λ l. c.args.out.now.items ++ l) both) c.append_with-in-Halved.ensures.appended
 
 pub returns-in_ok-append_with-in-Halved-clause-err : goal.returns-in_ok-append_with-in-Halved-clause-err
 returns-in_ok-append_with-in-Halved-clause-err t c =

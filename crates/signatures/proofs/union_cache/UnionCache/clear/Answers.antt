@@ -1,5 +1,5 @@
-use Rattle.signatures.proofs.UnionCache.{none_noted}
+use Rattle.signatures.proofs.UnionCache.{none_stored}
 use Rattle.signatures.proofs.union_cache.UnionCache.clear.Goals as goal
 
 pub returns : goal.returns
-returns c = none_noted c.fill.new.self.items _ (c.fill.ensures.items (λ y e. e))
+returns c = none_stored c.fill.new.self.items _ (c.fill.ensures.items (λ y e. e))

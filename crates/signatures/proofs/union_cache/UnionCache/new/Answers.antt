@@ -1,6 +1,6 @@
-use Rattle.signatures.proofs.UnionCache.{none_noted}
+use Rattle.signatures.proofs.UnionCache.{none_stored}
 use Rattle.std.proofs.Common.{rules}
 use Rattle.signatures.proofs.union_cache.UnionCache.new.Goals as goal
 
 pub returns : goal.returns
-returns c = search (rules, c.in_ok-resize.ensures.items, c.new-unions.ensures.items, none_noted)
+returns c = search (rules, c.in_ok-resize.ensures.items, c.new-unions.ensures.items, none_stored)

@@ -46,7 +46,7 @@ united_in t c =
     AreUnited-parts
     (parted_grown grow all is.first c.requires.first) (parted_grown grow all is.second c.requires.second)
     c.both-2.ensures.grow lower.within lower.exactly upper.within upper.exactly
-    (c.invariants.ensures.stored.rise c.args.k _ c.requires.second) (halved_long c.in-Halved-shape.ensures) is.cut
+    (c.invariants.ensures.stored.ascending c.args.k _ c.requires.second) (halved_long c.in-Halved-shape.ensures) is.cut
 
 pub intern-requires : goal.intern-requires
 intern-requires t c = (united_in t ((goal.at.intern-requires t c).In_ok-above)).0
