@@ -1,8 +1,9 @@
 -- These lemmas are about the entries of a hash table, each of which has a tag, which is a hash. The lemmas show how
 -- entries are added, and how entries are found by their tags. They also show how entries are put into new chains when
 -- the number of buckets changes.
-use Rattle.std.proofs.Common.{rules, ◌≡◌, ℕ, ◌+◌, ◌^◌, ◌<◌, ◌≤◌, List, [], ◌∷◌, ◌++◌, length, get_or, set, refl}
-use Rattle.std.proofs.Common.{arith, length-set}
+use Rattle.std.proofs.Common.{rules, ◌≡◌, ◌∙◌, ℕ, ◌+◌, ◌^◌, ◌<◌, ◌≤◌, List, [], ◌∷◌, ◌++◌, length, get_or, set, refl}
+use Rattle.std.proofs.Common.{arith, length-set, get_or-set_same, get_or-set_other}
+use Rattle.std.proofs.lemmas.Bool.{cases_eq}
 use Rattle.std.proofs.lemmas.Grind.{common_steps}
 use Rattle.std.proofs.lemmas.List.{length-map, length_push, map-append, get_or_append_left, get_or_push}
 use Rattle.std.proofs.lemmas.List.Elements.{All-push, All-same}
@@ -50,8 +51,10 @@ module _ {heads : List ℕ} {entries : List Entry} (is : AreBuckets heads entrie
   pub before_is : {k r first : ℕ} → 0 < k → k < length entries → first ≡ (entry_at entries k).before
       → IsLast (tags_of entries) (tag_at (tags_of entries) k) (first + 1) r
       → IsLast (tags_of entries) (tag_at (tags_of entries) k) k r
-  before_is {k} some low head last =
-      IsLast-further last (search (rules, is.chained.before_below k)) (search (rules, is.chained.before_last, tag_is))
+  before_is {k} {r} {first} some low head last =
+      let below = is.chained.before_below k some low in
+      IsLast-further last (λ some. omega arith) (λ q high in' e.
+      grind (arith, is.chained.before_last q k, tag_is entries q, tag_is entries k))
 
 -- Suppose that a new entry is put at the head of the chain of its bucket, which links all entries in this bucket. Then
 -- the hash table still satisfies `AreBuckets`, so that every entry is found by its tag (hash).
@@ -101,4 +104,11 @@ pub record Emptied (old : List ℕ) (r : ℕ) (heads : List ℕ) : Type 0 where
 pub Emptied-more : (old : List ℕ) (entries : List Entry) (r : ℕ) (heads : List ℕ) → AreBuckets old entries →
     Emptied old r heads → (b : ℕ) → b < length old → b ≡ entry_bucket entries old r →
     Emptied old (r + 1) (set heads b 0)
-Emptied-more old entries r heads is now b in' at_b = search (rules, is.chained.heads_fit, now.left)
+Emptied-more old entries r heads is now b in' at_b = record {
+  as_many = length-set heads b 0 ∙ now.as_many;
+  left = λ a low some.
+      let same = get_or-set_same heads b 0 0 in
+      let other = get_or-set_other heads b a 0 0 in
+      let fit = is.chained.heads_fit a low in
+      grind (arith, cases_eq a b, same, other, now.as_many, now.left a low, fit, cases_eq r (get_or heads a 0));
+}
