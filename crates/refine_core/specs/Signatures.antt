@@ -4,7 +4,6 @@ use Rattle.std.specs.Prelude.{◌≡◌, ℕ, List, [], ◌∷◌, length, slice
 use Rattle.signatures.specs.Lists.{list_at, AreIds}
 use Rattle.partition.specs.Blocks.{RoundBlocks, InactiveHaveNone}
 use Rattle.refine_core.specs.declared.signed_blocks.IndexState.{IndexState}
-use Rattle.refine_core.specs.declared.signed_blocks.IndexState.TheVariants.{Absent, Searched, Pending}
 
 -- Returns the signature of the state s. The list `signature_ids` has the ID of this signature at the index s, and the
 -- list `signatures` has the signatures in the order of their IDs.
@@ -32,12 +31,6 @@ pub record HaveSignatures (of active : List ℕ) (signatures : List (List (ℕ �
     pub each : AreIds signatures signature_ids
     pub states : length signature_ids ≡ length of
     pub none : InactiveHaveNone active signature_ids
-
--- `FitsIndexState` holds if there is no predecessor index, or if the index was built for a system with n states.
-abbrev pub FitsIndexState : ℕ → IndexState → Type 0
-FitsIndexState n Absent = Unit {0}
-FitsIndexState n (Searched e) = length e.index.all ≡ n
-FitsIndexState n (Pending e) = length e.index.all ≡ n
 
 -- `HasNoSignatures` holds under two conditions. First, the list `signatures` of the interned signatures has only the
 -- empty signature. Second, the list `cached` has the ID of the empty signature for each state. The list `of` has the

@@ -5,7 +5,7 @@ ghost use Rattle.memory.specs.declared.limits.TheConstants.{MOST_STATES};
 ghost use Rattle.signatures.specs.Lists.{AreLists};
 ghost use Rattle.partition.specs.Partition.{AreBlocks};
 ghost use Rattle.partition.specs.Blocks.{AreActive, InactiveHaveNone};
-ghost use Rattle.refine_core.specs.Signatures.{HaveSignatures, FitsIndexState, HasNoSignatures};
+ghost use Rattle.refine_core.specs.Signatures.{HaveSignatures, HasNoSignatures};
 ghost use Rattle.refine_core.specs.IndexState.{AreAllActive, ActivatesAll, IsSplitOf, MayBuildIndex, SearchesIfPending};
 ghost use Rattle.refine_core.specs.IndexState.{MayDropSingletons};
 ghost use Rattle.refine_core.specs.Index.{SearchIndex, IsSearchIndex, HasVisited};
@@ -82,8 +82,7 @@ pub struct SignedBlocks {
 }
 
 impl Model for SignedBlocks {
-    ghost use Rattle.std.specs.Prelude.{length};
-    ghost use Rattle.refine_core.specs.Signatures.{Signed, HaveSignatures, FitsIndexState};
+    ghost use Rattle.refine_core.specs.Signatures.{Signed, HaveSignatures};
 
     ghost Value = { Signed };
 
@@ -96,8 +95,7 @@ impl Model for SignedBlocks {
       visited = r.visited;
     } };
 
-    ghost invariant = { λ r. HaveSignatures r.blocks.block_ids r.blocks.active r.signatures r.signature_ids.items
-        × FitsIndexState (length r.blocks.block_ids) r.index_state };
+    ghost invariant = { λ r. HaveSignatures r.blocks.block_ids r.blocks.active r.signatures r.signature_ids.items };
 }
 
 impl SignedBlocks {
@@ -346,7 +344,6 @@ fn activate_all<M: Meter>(
     predecessors: Predecessors,
     l: &Lts<M>,
 ) -> Result<SignedBlocks, Memory>
-    requires fits { length predecessors.index.all ≡ length round.blocks.block_ids }
     requires states { length round.blocks.block_ids ≡ l.now.states }
     ensures blocks { IfOk result
         (λ r. r.blocks ≡ record round.blocks { active = r.blocks.active }) }

@@ -4,13 +4,10 @@ use Rattle.refine_core.proofs.signed_blocks.activate_all.Goals as goal
 
 pub invariant_of-result : goal.invariant_of-result
 invariant_of-result g c =
-    let have = c.round.invariant.0 in
-    let blocks = ap (λ r. r.blocks) c.round.view_is ∙ c.in_ok-round.ensures.same.0 in
+    let have = c.round.invariant in
     let one = ap length (ap (λ r. r.signatures) c.round.view_is ∙ c.in_ok-round.ensures.discarded.only) in
-    rw c.with_active-blocks.ensures.same (
-      emptied (omega (arith, one)) (λ s h. omega (arith, one, have.each s 0 h)) refl have.states,
-      c.requires.fits ∙ ap (λ b. length b.block_ids) (sym blocks),
-    )
+    rw c.with_active-blocks.ensures.same
+    (emptied (omega (arith, one)) (λ s h. omega (arith, one, have.each s 0 h)) refl have.states)
 
 pub returns-clause-activates : goal.returns-clause-activates
 returns-clause-activates g c = let discarded = rw (sym c.round.view_is) at c.in_ok-round.ensures.discarded in

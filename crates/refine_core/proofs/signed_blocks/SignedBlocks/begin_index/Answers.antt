@@ -1,19 +1,15 @@
-use Rattle.std.proofs.Common.{rules, ◌∙◌, length, ap, sym, inr, arith}
+use Rattle.std.proofs.Common.{rules, ◌∙◌, length, ap, inr, arith}
 use Rattle.refine_core.proofs.Signatures.{emptied}
 use Rattle.refine_core.proofs.IndexStates.{none_visited}
 use Rattle.refine_core.proofs.signed_blocks.SignedBlocks.begin_index.Goals as goal
 
 pub forget-requires-clause-none : goal.forget-requires-clause-none
-forget-requires-clause-none g c = rw (c.active.ensures.active) c.self.invariant.0.none
+forget-requires-clause-none g c = rw (c.active.ensures.active) c.self.invariant.none
 
 pub invariant_of-result : goal.invariant_of-result
 invariant_of-result g c =
-    rw (c.in_ok-blocks.ensures) (
-      emptied (omega (arith, ap length c.in_ok-self-inside.ensures)) c.forget.ensures.empty c.forget.ensures.states
-          c.self.invariant.0.states,
-      (c.in_ok-predecessors.ensures.index _ c.requires.states).index.entries.ranges.size ∙ sym c.requires.states
-          ∙ ap (λ r. length r.blocks.block_ids) (sym (c.self.view_is ∙ c.needs_index.ensures)),
-    )
+    rw (c.in_ok-blocks.ensures) (emptied (omega (arith, ap length c.in_ok-self-inside.ensures)) c.forget.ensures.empty
+    c.forget.ensures.states c.self.invariant.states)
 
 pub returns-then-not-needs_index-clause-visited : goal.returns-then-not-needs_index-clause-visited
 returns-then-not-needs_index-clause-visited g c =

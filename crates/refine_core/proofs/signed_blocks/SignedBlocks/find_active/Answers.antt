@@ -1,4 +1,4 @@
-use Rattle.std.proofs.Common.{◌∙◌, length, ap, sym, refl, inl, inr, rules}
+use Rattle.std.proofs.Common.{◌∙◌, ap, sym, refl, inl, inr, rules}
 use Rattle.refine_core.proofs.Signatures.{emptied}
 use Rattle.refine_core.proofs.IndexStates.{none_visited}
 use Rattle.refine_core.proofs.signed_blocks.SignedBlocks.find_active.Goals as goal
@@ -11,15 +11,12 @@ returns-in_default g c = record {
 }
 
 pub forget-requires-clause-none : goal.forget-requires-clause-none
-forget-requires-clause-none g c = rw (c.active.ensures.active) c.self.invariant.0.none
+forget-requires-clause-none g c = rw (c.active.ensures.active) c.self.invariant.none
 
 pub invariant_of-result : goal.invariant_of-result
 invariant_of-result g c =
-    rw c.with_active-blocks.ensures.same (
-      emptied c.invariants.ensures.some c.forget.ensures.empty c.forget.ensures.states c.self.invariant.0.states,
-      c.in_ok-predecessors.ensures.index.index.entries.ranges.size ∙ sym c.requires.states
-          ∙ ap (λ r. length r.blocks.block_ids) (sym c.self.view_is),
-    )
+    rw c.with_active-blocks.ensures.same
+    (emptied c.invariants.ensures.some c.forget.ensures.empty c.forget.ensures.states c.self.invariant.states)
 
 pub returns-clause-found : goal.returns-clause-found
 returns-clause-found g c = let done = c.in_ok-predecessors.ensures in
