@@ -14,12 +14,8 @@ pub struct Branching;
 impl Signing for Branching {
     ghost relation = { branching };
 
-    fn begin<M: Meter>(l: &Lts<M>, round: SignedBlocks, m: &mut M) -> Result<SignedBlocks, Memory> {
-        lts::rows_are_steps();
-        l.invariants();
-        let round = round.discard_signatures()?;
-        round.invariants();
-        round.begin_index(l, Reach::Back, m)
+    fn reach() -> Reach {
+        Reach::Back
     }
 
     fn discard_cached(round: SignedBlocks) -> Result<SignedBlocks, Memory> {

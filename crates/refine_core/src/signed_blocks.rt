@@ -169,9 +169,8 @@ impl SignedBlocks {
 
     /// Discards all signatures, including the cached signatures. Afterwards, each state has the empty signature.
     pub fn discard_signatures(mut self) -> Result<SignedBlocks, Memory>
-        ensures same { IfOk result (λ r. (r.blocks ≡ self.blocks)
-            × (r.index ≡ self.index)) }
-        ensures visited { IfOk result (λ r. r.visited ≡ self.visited) }
+        ensures same { IfOk result (λ r. (r.blocks ≡ self.blocks) × (r.index ≡ self.index)
+            × (r.visited ≡ self.visited)) }
         ensures discarded { IfOk result
             (λ r. HasNoSignatures r.blocks.block_ids r.signatures r.cached) }
     {

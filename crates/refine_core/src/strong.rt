@@ -26,10 +26,8 @@ pub struct Strong;
 impl Signing for Strong {
     ghost relation = { strong };
 
-    fn begin<M: Meter>(l: &Lts<M>, round: SignedBlocks, m: &mut M) -> Result<SignedBlocks, Memory> {
-        lts::rows_are_steps();
-        l.invariants();
-        round.begin_index(l, Reach::Before, m)
+    fn reach() -> Reach {
+        Reach::Before
     }
 
     fn discard_cached(round: SignedBlocks) -> Result<SignedBlocks, Memory> {

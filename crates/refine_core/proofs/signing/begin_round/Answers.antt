@@ -1,7 +1,7 @@
-use Rattle.std.proofs.Common.{◌∙◌, sym, ap, refl, subst, None, IfOk}
+use Rattle.std.proofs.Common.{◌∙◌, length, sym, ap, refl, subst, None, IfOk}
 use Rattle.std.proofs.lemmas.Result.{IfOk-weaker}
-use Rattle.refine_core.specs.IndexState.{Awaits, HasSearched}
-use Rattle.refine_core.proofs.IndexStates.{awaits_cleared, none_visited, restarted, searched}
+use Rattle.refine_core.specs.IndexState.{HasSearched}
+use Rattle.refine_core.proofs.IndexStates.{begun_unindexed, none_visited, restarted, searched}
 use Rattle.refine_core.proofs.signing.begin_round.Goals as goal
 
 pub returns-then-len-round-clause-begun : goal.returns-then-len-round-clause-begun
@@ -14,16 +14,26 @@ returns-then-len-round-clause-visited g c = IfOk-weaker c.activate_all.result _ 
     (λ r again. none_visited _ _ _ (again.visited ∙ ap (λ r. r.visited) c.clear_visited-round.ensures))
     c.activate_all.ensures
 
-pub begin-requires-clause-ready_for_round : goal.begin-requires-clause-ready_for_round
-begin-requires-clause-ready_for_round g c = let rel = g.S.Signing.relation in
+pub begin_index-requires-clause-states : goal.begin_index-requires-clause-states
+begin_index-requires-clause-states g c = let is = c.round.view_is ∙ c.clear_visited-round.ensures in
+    ap (λ b. length b.block_ids) (c.in_ok-round.ensures.same.0 ∙ ap (λ r. r.blocks) is)
+    ∙ c.requires.ready_for_round.states
+
+pub begin_index-requires-clause-none : goal.begin_index-requires-clause-none
+begin_index-requires-clause-none g c =
+    c.in_ok-round.ensures.same.2 ∙ ap (λ r. r.visited) (c.round.view_is ∙ c.clear_visited-round.ensures)
+
+-- Suppose that there was no predecessor index, and that the call of `begin_index`, which may build the index, has
+-- succeeded. Then the round is ready for computing signatures (`IsBegun`).
+pub returns-in_default-clause-begun : goal.returns-in_default-clause-begun
+returns-in_default-clause-begun g c = let l = c.args.l.now in
     let is = c.round.view_is ∙ c.clear_visited-round.ensures in
     let none = ap (λ r. r.index) (sym is) ∙ sym c.take.ensures.value ∙ c.in_default.is in
-    rw c.take.ensures.after (subst (λ r. Awaits rel c.args.l.now (record r { index = None })) (sym is)
-    (awaits_cleared rel c.args.l.now c.args.round none c.requires.ready_for_round))
-
-pub returns-in_default-clause-begun : goal.returns-in_default-clause-begun
-returns-in_default-clause-begun g c =
-    rw (ap (λ r. r.blocks) (c.round.view_is ∙ c.clear_visited-round.ensures)) at c.begin.ensures.begun
+    let begun = begun_unindexed g.S.Signing.relation l (c.rows_are_steps.ensures.steps l) c.args.round
+    c.in_ok-round.round in
+    IfOk-weaker c.begin_index.result _ _
+    (λ r by. begun r none c.requires.ready_for_round (c.in_ok-round.ensures.same.0 ∙ ap (λ r. r.blocks) is)
+    c.in_ok-round.ensures.discarded by) (rw c.reach.ensures at c.begin_index.ensures.begins)
 
 pub find_active-requires-clause-index : goal.find_active-requires-clause-index
 find_active-requires-clause-index g c =
