@@ -1,5 +1,4 @@
-use Rattle.std.proofs.Common.{◌≡◌, suc, ◌+◌, ◌*◌, ◌≤◌, [], ◌∷◌, length, slice_index, None, ap, sym, ◌∙◌, inr, arith}
-use Rattle.std.proofs.Math.Logic.{⊎_map}
+use Rattle.std.proofs.Common.{◌≡◌, suc, ◌+◌, ◌*◌, ◌≤◌, [], ◌∷◌, length, slice_index, None, ap, sym, ◌∙◌, arith}
 use Rattle.std.proofs.lemmas.Nat.{mul-le}
 use Rattle.std.proofs.Math.Nat.{suc-mul, add-mul}
 use Rattle.theory.specs.Blocks.{Turns}
@@ -21,13 +20,13 @@ loop-before-init g c =
     let l = c.args.l.now in
     let ids = c.in_ok-blocks.blocks.block_ids in
     let blocks = c.in_ok-blocks.ensures in
-    let is = c.in_ok-round.ensures.blocks in
+    let is = c.in_ok-round.ensures.blocks ∙ c.with_active-blocks.ensures.same in
     let one = one_block l.states ids c.states.result (sym c.states.ensures.value) blocks.one in
     let on = c.refinement_goes_on.ensures.begun rel (system_of l) (slice_index ids) c.states.ensures.lts.system one in
     record {
       awaits = awaits_unindexed rel l c.in_ok-round.round None (rw is (blocks.states ∙ c.states.ensures.value))
           (ap (λ b. b.first_new) is ∙ blocks.count.1) c.in_ok-round.ensures.absent
-          (λ s h. ⊎_map (λ one. rw (is, blocks.active) one) inr (c.in_ok-active.ensures.rows s h));
+          (rw is c.in_ok-active.ensures.others);
       made = rw is
           (record { rounds = 0; fewer = omega arith; past = []; were = (one, tt); underway = on; costs = omega arith });
     }
