@@ -67,9 +67,9 @@
 //! For branching bisimilarity, each round discards the signatures of earlier rounds until the index is built. After
 //! that, the signatures of earlier rounds stay stored. Let k be the number of active states when the index is built. A
 //! round over these states makes at most k + 1 signatures: one for each active state, and the empty signature. If more
-//! than 2 * (k + 1) signatures are stored after a later round, all signatures are discarded. The next round then
-//! processes every state that has a transition and is not in a singleton block. From then on, k is the number of the
-//! states that this round processes.
+//! than 2 * (k + 1) signatures are stored after a later round, the next round begins by discarding all signatures. It
+//! then processes every state that has a transition and is not in a singleton block. From then on, k is the number of
+//! the states that this round processes.
 //!
 //! A state moves to a new block only if the new block has at most half of the states of the old block (`partition`). So
 //! a state moves to a new block at most log2 n times, where n is the number of states. Each time, the search goes back

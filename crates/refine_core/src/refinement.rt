@@ -116,7 +116,7 @@ fn next_round<S: Signing, M: Meter>(
     m.start_round();
     let signed = sign_each::<S, M>(l, round, m)?;
     signed.invariants();
-    let next = signed.split(l)?;
+    let next = signed.split()?;
     next.invariants();
     Ok(next)
 }

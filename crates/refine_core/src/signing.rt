@@ -1,6 +1,6 @@
 //! The first part of a round of refinement, which computes the signatures of the active states (the states that the
 //! round processes). The second part of the round is the split.
-ghost use Rattle.std.specs.Prelude.{◌≡◌, ◌<◌, List, ℕ, Option, [], length, IfOk};
+ghost use Rattle.std.specs.Prelude.{◌≡◌, ◌<◌, List, ℕ, Option, None, [], length, IfOk};
 ghost use Rattle.theory.specs.declared.relation.Relation.{Relation};
 ghost use Rattle.theory.specs.declared.relation.Relation.TheVariants.{Branching as branching};
 ghost use Rattle.lts.specs.Meter.{HasRoomFor, Costs, Visits, on_ok};
@@ -11,9 +11,8 @@ ghost use Rattle.inert.specs.Signed.{IsSignature};
 ghost use Rattle.refine_core.specs.Signatures.{HasNoSignatures, list_of};
 ghost use Rattle.refine_core.specs.Index.{HasVisited};
 ghost use Rattle.refine_core.specs.IndexState.{Awaits, IsBegun, IsReadyToSign, SignsEach, SignsRound, IsSignedRound};
-ghost use Rattle.refine_core.specs.declared.signed_blocks.IndexState.TheVariants.{Absent};
 
-use crate::signed_blocks::{IndexState, SignedBlocks};
+use crate::signed_blocks::SignedBlocks;
 use lts::{Lts, Memory, Meter, visit_rest};
 use partition::Blocks;
 use signatures::Interner;
@@ -28,7 +27,7 @@ pub trait Signing {
     /// is late if few blocks are new. This method builds the predecessor index if this round is late, and if the
     /// earlier late rounds together have done enough work (`SignedBlocks::begin_index`).
     fn begin<M: Meter>(l: &Lts<M>, round: SignedBlocks, m: &mut M) -> Result<SignedBlocks, Memory>
-        requires absent { round.index_state ≡ Absent }
+        requires absent { round.index ≡ None }
         requires ready_for_round { Awaits relation l.now round }
         requires none { round.visited ≡ [] }
         requires room { HasRoomFor (M.counted m.old) 0 (length l.now.places) }
@@ -58,7 +57,7 @@ pub trait Signing {
         requires room { HasRoomFor (M.counted m.old) 0
             (length (remaining_of round.visited l.now.places)) }
         ensures same { IfOk result (λ r. (r.blocks ≡ round.blocks)
-            × (r.index_state ≡ round.index_state)) }
+            × (r.index ≡ round.index)) }
         ensures signed { IfOk result (λ r. (old : Option (List ℕ))
             → IsReadyToSign relation l.now old round → SignsEach relation l.now old r) }
         ensures cost { Costs (M.counted m.old) (M.counted m.new) 0 0
@@ -144,9 +143,10 @@ fn sign_and_visit_rest<S: Signing, M: Meter>(
     Ok(signed)
 }
 
-/// Begins a round. If there is no predecessor index, the function calls `Signing::begin`, which may build the index. If
-/// a search of the index is pending, the function makes this search. The search finds the active states, which are the
-/// states that the round processes.
+/// Begins a round, and finds the active states (the states that the round processes). If there is no predecessor index,
+/// the function calls `Signing::begin`, which may build the index. If too many signatures are stored, the function
+/// discards all signatures and activates all states (`SignedBlocks::activate_all`). Otherwise, it searches the index
+/// for the active states.
 fn begin_round<S: Signing, M: Meter>(
     l: &Lts<M>,
     round: SignedBlocks,
@@ -165,9 +165,12 @@ fn begin_round<S: Signing, M: Meter>(
 {
     lts::rows_are_steps();
     l.invariants();
-    let round = round.clear_visited();
-    let IndexState::Absent = &round.index_state else {
-        return round.find_active(l, m);
+    let mut round = round.clear_visited();
+    if round.signatures.len() > round.most_signatures {
+        return round.activate_all(l);
+    }
+    let Some(predecessors) = round.index.take() else {
+        return S::begin(l, round, m);
     };
-    S::begin(l, round, m)
+    round.find_active(predecessors, l, m)
 }

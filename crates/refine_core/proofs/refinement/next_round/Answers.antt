@@ -18,6 +18,8 @@ returns-clause-next g c =
     let l = c.args.l.now in
     let signed = c.in_ok-signed.ensures.signed in
     let labelled : Labelled l = λ s a t. c.rows_are_steps.ensures.numbered l s a t c.invariants.ensures in
+    let known = c.invariants-2.ensures in
     rw signed.blocks at (is_next rel l c.invariants.ensures labelled c.args.round.blocks c.in_ok-signed.signed
-    c.in_ok-next.next c.invariants-2.ensures.blocks
-    (ap (λ p. length p.block_ids) signed.blocks ∙ c.requires.ready_for_round.states) signed c.in_ok-next.ensures)
+    c.in_ok-next.next known.blocks known.signatures known.have
+    (ap (λ p. length p.block_ids) signed.blocks ∙ c.requires.ready_for_round.states) signed c.in_ok-next.ensures.same
+    c.in_ok-next.ensures.split)

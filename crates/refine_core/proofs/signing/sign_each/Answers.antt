@@ -18,6 +18,7 @@ returns-clause-signed g c = let begun = c.in_ok-begun.ensures.begun in
     IfOk-weaker c.sign_and_visit_rest.result _ _ (λ r signed. record {
       old = begun.old;
       blocks = rw signed.blocks begun.blocks;
-      index = rw (signed.blocks, signed.index_state) begun.index;
+      all = rw (signed.blocks, signed.index) begun.all;
+      index = rw (signed.blocks, signed.index) begun.index;
       stage = signed.signs _ begun.stage;
     }) c.sign_and_visit_rest.ensures.signed

@@ -10,6 +10,6 @@ begin_index-requires-clause-none g c = c.in_ok-round.ensures.visited ∙ c.requi
 pub returns-clause-begun : goal.returns-clause-begun
 returns-clause-begun g c = IfOk-weaker c.begin_index.result _ _
     (begun_unindexed Branching c.args.l.now (c.rows_are_steps.ensures.steps c.args.l.now) c.args.round
-    c.in_ok-round.round c.requires.absent c.requires.ready_for_round c.in_ok-round.ensures.same
+    c.in_ok-round.round c.requires.absent c.requires.ready_for_round c.in_ok-round.ensures.same.0
     (λ _. c.in_ok-round.ensures.discarded))
     c.begin_index.ensures.begins
