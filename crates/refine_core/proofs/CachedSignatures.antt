@@ -12,10 +12,10 @@ use Rattle.theory.specs.Unaffected.{HasEmptySignature}
 use Rattle.theory.proofs.CallerLemmas.{empty_before}
 use Rattle.lts.specs.Labels.{text_of}
 use Rattle.lts.specs.Lts.{Grouped, row_of, system_of}
-use Rattle.signatures.specs.Lists.{AreLists, AreIds, Grow, list_at, pair_cmp}
+use Rattle.signatures.specs.Lists.{AreLists, list_at, pair_cmp}
 use Rattle.signatures.proofs.CallerLemmas.{rising_none}
 use Rattle.partition.specs.Splitting.{IsSingleton}
-use Rattle.partition.specs.Blocks.{RoundBlocks, AreActive, IsMember, InactiveHaveNone}
+use Rattle.partition.specs.Blocks.{RoundBlocks, IsMember, InactiveHaveNone}
 use Rattle.inert.specs.Signed.{CachesBeside, SignsActive, IsSignature}
 use Rattle.refine_core.specs.Signatures.{Signed, HasNoSignatures, list_of}
 use Rattle.refine_core.specs.IndexState.{IsReadyToSign, AreAllActive, OthersKeepSignatures, SignsEach}

@@ -41,7 +41,7 @@ module _ (l : Grouped) (lts : IsLts l) (q : RoundBlocks) (size : length q.block_
         let new : (source_of e ≡ s) × (q.first_new ≤ slice_index q.block_ids (target_of e))
         = grind (arith, nat_tests) in
         let within = All-contains (IsTriple (length l.labels) l.states) l.places e lts.in_range.each (k, less, is) in
-        let found = (finds.new _ (omega (arith, within, size)) new.1).0 k less (ap target_of here) (tt, tt) in
+        let found = (finds.new _ (omega (arith, within, size)) new.1).0 k less (ap target_of here) (λ is. absurd cc) in
         ⊎_map (λ one. one) inl (subst (IsFoundOrSingleton q.block_ids q.active) (ap source_of here ∙ new.0) found)
     | inr none ↦ inr (inr (λ a t step. let k = step_at l s a t step in
         let shows = list_any_at (shows_new s) l.places k.place (0, 0, 0) k.below in

@@ -1,6 +1,6 @@
 -- Lemmas about the list `signature_ids`. They show that this list has the ID of an interned signature for each state
 -- (`HaveSignatures`).
-use Rattle.std.proofs.Common.{rules, ◌≡◌, ◌⊎◌, inl, inr, ℕ, ◌<◌, ◌≤◌, List, ◌++◌, length, take, slice_index}
+use Rattle.std.proofs.Common.{rules, ◌≡◌, ℕ, ◌<◌, ◌≤◌, List, ◌++◌, length, take, slice_index}
 use Rattle.std.proofs.lemmas.List.{get_or_default, take_at}
 use Rattle.signatures.specs.Lists.{AreLists, AreIds}
 use Rattle.partition.specs.Blocks.{RoundBlocks, InactiveHaveNone, AreSameOrNone, AreSplitBlocks}

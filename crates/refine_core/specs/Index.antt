@@ -3,7 +3,7 @@
 -- each state, the transitions that lead to this state. This file defines which states the search has to find, and what
 -- holds while the search is in progress. The place of a transition is its index in the list of all transitions.
 use Rattle.std.specs.Prelude.{◌≡◌, ◌⊎◌, ℕ, ◌+◌, ◌<◌, ◌≤◌, ◌==◌, Bool, true, false, IsTrue, List, length}
-use Rattle.std.specs.Prelude.{slice_index, slice_index_or, Option, None, Some, IfSome}
+use Rattle.std.specs.Prelude.{slice_index, slice_index_or, ◌↔◌}
 use Rattle.std.specs.List.{All, IsDistinct}
 use Rattle.std.specs.Io.{StartsWith}
 use Rattle.theory.specs.System.{internal}
@@ -67,28 +67,26 @@ abbrev pub IsFoundOrSingleton : List ℕ → List ℕ → ℕ → Type 0
 IsFoundOrSingleton of found s = IsMember found s ⊎ IsSingleton of s
 
 -- `IsAsked` holds if a search has to find the source of the transition at the place p, which is an index in the list of
--- all transitions. The argument `block` is `None` or a block ID. For `None`, the search has to find the source of every
--- transition. For a block ID, the search has to find the source only if the transition is internal and its source is in
--- this block.
-abbrev pub IsAsked : Option ℕ → Grouped → List ℕ → ℕ → Type 0
-IsAsked block l of p = IfSome block (λ b. text_of l.labels (label_of (place_at l.places p)) ≡ internal)
-    × IfSome block (λ b. slice_index of (source_of (place_at l.places p)) ≡ b)
+-- all transitions. If `inert` is false, the search has to find the source of every transition. If `inert` is true, the
+-- search has to find the source only if the transition is inert. This means that the transition is internal, and that
+-- its source and its target are in the same block.
+abbrev pub IsAsked : Bool → Grouped → List ℕ → ℕ → Type 0
+IsAsked inert l of p = IsTrue inert → (text_of l.labels (label_of (place_at l.places p)) ≡ internal)
+    × (slice_index of (source_of (place_at l.places p)) ≡ slice_index of (target_of (place_at l.places p)))
 
--- `FindsSources` holds if a search has found the sources of certain transitions to the state t. The argument `block` is
--- `None` or a block ID, and determines which transitions these are (`IsAsked`). For `None`, they are all transitions to
--- t. For a block ID, they are the internal transitions to t whose sources are in this block. So if `block` is the ID of
--- the block of t, they are the inert transitions to t. Sources in singleton blocks (blocks with one state) need not be
--- found.
-abbrev pub FindsSources : Option ℕ → Grouped → List ℕ → List ℕ → ℕ → Type 0
-FindsSources block l of found t = (p : ℕ) → p < length l.places → target_of (place_at l.places p) ≡ t
-    → IsAsked block l of p → IsFoundOrSingleton of found (source_of (place_at l.places p))
+-- `FindsSources` holds if a search has found the sources of certain transitions to the state t. If `inert` is false,
+-- these are all transitions to t. If `inert` is true, they are the inert transitions to t (`IsAsked`). Sources in
+-- singleton blocks (blocks with one state) need not be found.
+abbrev pub FindsSources : Bool → Grouped → List ℕ → List ℕ → ℕ → Type 0
+FindsSources inert l of found t = (p : ℕ) → p < length l.places → target_of (place_at l.places p) ≡ t
+    → IsAsked inert l of p → IsFoundOrSingleton of found (source_of (place_at l.places p))
 
 -- `FindsNew` holds if a search has found all states that it has to find for the state t of a new block. A new block is
 -- a block that the last split has made. The search has to find the sources of all transitions to t. If the search goes
 -- back along inert transitions (`reach` is `Back`), it has to find t itself, too. States in singleton blocks (blocks
 -- with one state) need not be found.
 abbrev pub FindsNew : Reach → Grouped → List ℕ → List ℕ → ℕ → Type 0
-FindsNew reach l of found t = FindsSources None l of found t × (reach ≡ Back → IsFoundOrSingleton of found t)
+FindsNew reach l of found t = FindsSources false l of found t × (reach ≡ Back → IsFoundOrSingleton of found t)
 
 -- `SearchIsComplete` holds if a search has found all states that it has to find, and these states are in the list
 -- `found`. A block is new if the last split has made it, and otherwise it is old. For each state t of a new block, the
@@ -99,7 +97,7 @@ pub record SearchIsComplete (reach : Reach) (l : Grouped) (p : RoundBlocks) (fou
   pub new : (t : ℕ) → t < length p.block_ids → p.first_new ≤ slice_index p.block_ids t
       → FindsNew reach l p.block_ids found t
   pub back : reach ≡ Back → (t : ℕ) → IsMember found t → slice_index p.block_ids t < p.first_new
-      → FindsSources (Some (slice_index p.block_ids t)) l p.block_ids found t
+      → FindsSources true l p.block_ids found t
 
 -- `AreFound` holds under two conditions. First, the list `found` contains all states that a search has to find
 -- (`SearchIsComplete`). Second, the states in this list are in strictly ascending order.
@@ -108,12 +106,12 @@ pub record AreFound (reach : Reach) (l : Grouped) (p : RoundBlocks) (found : Lis
   pub complete : SearchIsComplete reach l p found
 
 -- Returns, for each state, a range of entries of the predecessor index `x`. Each entry in the range of a state belongs
--- to a transition to this state. If the first argument is `None`, the range of a state has the entries of all
--- transitions to the state. If the first argument is a block ID, the range has only the internal group of the state,
--- which has the entries of internal transitions to the state. This range is the same for all block IDs.
-abbrev pub ranges_of : Option ℕ → Entries → List (ℕ × ℕ)
-ranges_of None x = x.all
-ranges_of (Some b) x = x.internal
+-- to a transition to this state. If the first argument is false, the range of a state has the entries of all
+-- transitions to the state. If the first argument is true, the range has only the internal group of the state, which
+-- has the entries of internal transitions to the state.
+abbrev pub ranges_of : Bool → Entries → List (ℕ × ℕ)
+ranges_of false x = x.all
+ranges_of true x = x.internal
 
 -- `IsNotLookedUp` holds if no transition whose place is in the list `visited` leads to the state t. This list has the
 -- places of the transitions that were visited (read and counted) in this round. The place of a transition is its index
@@ -127,10 +125,10 @@ IsNotLookedUp places visited t = All (λ k. ¬ (target_of (place_at places k) �
 -- state was visited (read and counted) before the step, then no transition to this other state was visited during the
 -- step. The list of the found states is `before` before the step, and `found` after the step. The list of the places
 -- (indices) of the visited transitions is `old` before the step, and `visited` after the step.
-pub record HasLookedUp (block : Option ℕ) (l : Grouped) (of : List ℕ) (t : ℕ) (before found old visited : List ℕ) :
+pub record HasLookedUp (inert : Bool) (l : Grouped) (of : List ℕ) (t : ℕ) (before found old visited : List ℕ) :
     Type 0 where
   pub more : StartsWith found before
-  pub sources : FindsSources block l of found t
+  pub sources : FindsSources inert l of found t
   pub others : (s : ℕ) → ¬ (s ≡ t) → IsNotLookedUp l.places old s → IsNotLookedUp l.places visited s
 
 -- `HasVisited` holds under three conditions. First, the list `visited` has places of transitions, and has no place
@@ -149,8 +147,7 @@ IsUnmarked marks = (s : ℕ) → ¬ IsTrue (slice_index_or marks s false)
 -- `AreMarked` holds under two conditions. First, the marked states are exactly the states in the list `found`. The
 -- state s is marked if the element of the list `marks` at the index s is true. Second, no state is in `found` twice.
 pub record AreMarked (marks : List Bool) (found : List ℕ) : Type 0 where
-  pub each : All (λ s. IsTrue (slice_index_or marks s false)) found
-  pub all : (s : ℕ) → IsTrue (slice_index_or marks s false) → IsMember found s
+  pub is : (s : ℕ) → IsTrue (slice_index_or marks s false) ↔ IsMember found s
   pub once : IsDistinct (λ s t. s == t) found
 
 -- `MarksFound` holds under two conditions. First, the list of marks in the record `at` has one entry for each of the

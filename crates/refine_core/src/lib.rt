@@ -17,15 +17,15 @@
 //! free ID. Let `first_new` be the next free ID before the last split. So a block is new since the last split if and
 //! only if its ID is at least `first_new`.
 //!
-//! At first, the active states are all states that have a transition. A singleton block is a block with one state. Each
-//! time that the number of singleton blocks has grown by more than 1/32 of the number of active states, the states in
-//! singleton blocks are dropped from the active states. A round is late if fewer than a quarter of the blocks are new.
-//! The predecessor index (`lts::Incoming`) is built when the late rounds together have done as much work as a few
-//! rounds over all states would do (`SignedBlocks::needs_index`). Up to this time, the late rounds have taken at most
-//! about twice as long as building the index takes. The place of a transition is its index in the list of all
-//! transitions. For each state, the predecessor index has the places of the transitions that lead to this state. With
-//! one exception, which is described below, each later round begins with a search that goes backwards from the states
-//! of new blocks (`predecessors`):
+//! A singleton block is a block with one state. At first, the active states are all states that have a transition and
+//! are not in a singleton block. Each time that the number of singleton blocks has grown by more than 1/32 of the
+//! number of active states, the states in singleton blocks are dropped from the active states. A round is late if fewer
+//! than a quarter of the blocks are new. The predecessor index (`lts::Incoming`) is built when the late rounds together
+//! have done as much work as a few rounds over all states would do (`SignedBlocks::needs_index`). Up to this time, the
+//! late rounds have taken at most about twice as long as building the index takes. The place of a transition is its
+//! index in the list of all transitions. For each state, the predecessor index has the places of the transitions that
+//! lead to this state. With one exception, which is described below, each later round begins with a search that goes
+//! backwards from the states of new blocks (`predecessors`):
 //!
 //! ```text
 //! block   0     0     0     0     0     2     1       first_new = 2: state 5 is in a new block

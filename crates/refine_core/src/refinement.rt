@@ -1,15 +1,14 @@
 //! The loop over the rounds of refinement. The loop ends after the first round that splits no block.
-ghost use Rattle.std.specs.Prelude.{◌≡◌, ◌⊎◌, ◌↔◌, ℕ, ◌*◌, ◌<◌, ◌≤◌, [], length, slice_index, IfOk, OnOk, OnErr};
+ghost use Rattle.std.specs.Prelude.{◌≡◌, ◌↔◌, ℕ, ◌*◌, ◌≤◌, length, slice_index, IfOk, OnOk, OnErr};
 ghost use Rattle.theory.specs.Bisimulation.{Bisimilar};
 ghost use Rattle.theory.specs.Blocks.{Turns, EachTwo};
 ghost use Rattle.lts.specs.Meter.{HasRoomFor, Costs, CostsUpTo};
-ghost use Rattle.lts.specs.Lts.{row_of, system_of};
+ghost use Rattle.lts.specs.Lts.{system_of};
 ghost use Rattle.partition.specs.Partition.{IsSomePartition};
-ghost use Rattle.partition.specs.Blocks.{IsMember, AreActive};
 ghost use Rattle.refine_core.specs.IndexState.{Awaits};
 ghost use Rattle.refine_core.specs.Rounds.{IsNextRound, RenumbersFew};
 
-use crate::signed_blocks::SignedBlocks;
+use crate::signed_blocks::{SignedBlocks, splittable_states};
 use crate::signing::{Signing, begin_round, sign_and_visit_rest};
 use lts::{Lts, Memory, Meter};
 use partition::{Blocks, Partition, renumber, renumberings_are_few};
@@ -43,8 +42,9 @@ pub fn refine_blocks<S: Signing, M: Meter>(
     ensures err { OnErr result
         (CostsUpTo (M.counted m.old) (M.counted m.new) l.now.states (length l.now.places)) }
 {
-    let active = with_rows(alloc, l)?;
-    let blocks = Blocks::single_block(alloc, l.states(), active)?;
+    let blocks = Blocks::single_block(alloc, l.states(), Vec::new(alloc))?;
+    let active = splittable_states(alloc, &blocks, l)?;
+    let blocks = blocks.with_active(active);
     let mut round = SignedBlocks::new(alloc, blocks)?;
     theory::refinement_goes_on();
     theory::final_blocks_are_bisimilarity();
@@ -88,24 +88,6 @@ pub fn refine<S: Signing, M: Meter>(
 {
     let blocks = refine_blocks::<S, M>(alloc, l, m)?;
     renumber(alloc, blocks.block_ids(), blocks.count())
-}
-
-/// Returns the states that have an outgoing transition, in ascending order. The header of an `.aut` file can declare
-/// many states without an outgoing transition, and rounds need not process these states.
-fn with_rows<M: Meter>(alloc: Global, l: &Lts<M>) -> Result<Vec<u32>, Memory>
-    ensures ascending { IfOk result (λ v. AreActive l.now.states v.items) }
-    ensures rows { IfOk result
-        (λ v. (s : ℕ) → s < l.now.states → IsMember v.items s ⊎ (row_of s l.now.places ≡ [])) }
-{
-    let mut active = Vec::with_capacity(alloc, l.states() as usize)?;
-    for s in 0..l.states() {
-        let (start, end) = l.row(s);
-        if start == end {
-            continue;
-        }
-        active.push(s)?;
-    }
-    Ok(active)
 }
 
 /// Makes one round: finds the active states (the states that the round processes), computes their signatures, and

@@ -334,8 +334,9 @@ fn most_signatures(active: &[u32]) -> u32
     2 * (active.len() as u32 + 1)
 }
 
-/// Returns the states that have a transition and are not in a singleton block, in ascending order.
-fn splittable_states<M: Meter>(
+/// Returns the states that have a transition and are not in a singleton block, in ascending order. The header of an
+/// `.aut` file can declare many states without an outgoing transition, and rounds need not process these states.
+pub(crate) fn splittable_states<M: Meter>(
     alloc: Global,
     blocks: &Blocks,
     l: &Lts<M>,
@@ -344,13 +345,13 @@ fn splittable_states<M: Meter>(
     ensures ascending { IfOk result (λ v. AreActive l.now.states v.items) }
     ensures others { IfOk result (λ v. AreAllActive l.now blocks.now.block_ids v.items) }
 {
-    let mut active = Vec::new(alloc);
+    let mut active = Vec::with_capacity(alloc, l.states() as usize)?;
     for s in 0..l.states() {
-        if blocks.is_singleton(s) {
-            continue;
-        }
         let (start, end) = l.row(s);
         if start == end {
+            continue;
+        }
+        if blocks.is_singleton(s) {
             continue;
         }
         active.push(s)?;

@@ -1,5 +1,4 @@
-use Rattle.std.proofs.Common.{◌≡◌, suc, ◌+◌, ◌*◌, ◌≤◌, [], ◌∷◌, length, slice_index, None, ap, sym, ◌∙◌, inr, arith}
-use Rattle.std.proofs.Math.Logic.{⊎_map}
+use Rattle.std.proofs.Common.{◌≡◌, suc, ◌+◌, ◌*◌, ◌≤◌, [], ◌∷◌, length, slice_index, None, ap, sym, ◌∙◌, arith}
 use Rattle.std.proofs.lemmas.Nat.{mul-le}
 use Rattle.std.proofs.Math.Nat.{suc-mul, add-mul}
 use Rattle.theory.specs.Blocks.{Turns}
@@ -21,7 +20,7 @@ loop-before-init g c =
     let l = c.args.l.now in
     let ids = c.in_ok-blocks.blocks.block_ids in
     let blocks = c.in_ok-blocks.ensures in
-    let is = c.in_ok-round.ensures.blocks in
+    let is = c.in_ok-round.ensures.blocks ∙ c.with_active-blocks.ensures.same in
     let one = one_block l.states ids c.states.result (sym c.states.ensures.value) blocks.one in
     let on = c.refinement_goes_on.ensures.begun rel (system_of l) (slice_index ids) c.states.ensures.lts.system one in
     record {
@@ -29,7 +28,7 @@ loop-before-init g c =
         states = rw is (blocks.states ∙ c.states.ensures.value);
         old = None;
         follows = λ _. ap (λ b. b.first_new) is ∙ blocks.count.1;
-        all = λ _ s h. ⊎_map (λ one. rw (is, blocks.active) one) inr (c.in_ok-active.ensures.rows s h);
+        all = λ _. rw is c.in_ok-active.ensures.others;
         index = rw c.in_ok-round.ensures.absent tt;
         later = λ some. absurd (some c.in_ok-round.ensures.absent);
       };

@@ -1,4 +1,4 @@
-use Rattle.std.proofs.Common.{rules, refl, ◌∙◌, length, slice_index, ap, sym, subst, arith}
+use Rattle.std.proofs.Common.{rules, ◌∙◌, length, ap, sym, subst, arith}
 use Rattle.std.proofs.lemmas.List.{take_at}
 use Rattle.theory.specs.declared.relation.Relation.TheVariants.{Branching}
 use Rattle.inert.specs.Signed.{SignsActive}
