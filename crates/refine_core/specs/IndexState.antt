@@ -12,8 +12,7 @@ use Rattle.inert.specs.Signed.{IsSignature}
 use Rattle.refine_core.specs.Signatures.{Signed, list_of, HasNoSignatures}
 use Rattle.refine_core.specs.Shown.{Follows, IsAsBefore, IsSplitSignature}
 use Rattle.refine_core.specs.Cached.{CachesIds}
-use Rattle.refine_core.specs.Index.{HasIndex, SearchIsComplete, reach_of}
-use Rattle.refine_core.specs.declared.predecessors.Reach.{Reach}
+use Rattle.refine_core.specs.Index.{HasIndex, SearchIsComplete}
 
 -- `AreAllActive` holds if each state is active (processed by the round), is in a singleton block (a block with one
 -- state), or has no transition. The list `blocks` has the block ID of each state, and the list `active` has the active
@@ -33,15 +32,15 @@ OthersKeepSignatures rel l old p = (s : ℕ) → s < l.states → IsMember p.act
 -- the last round, or is `None` if no round has run yet. The blocks of r must result from splitting the blocks of the
 -- last round (`Follows`). If no round has run yet, all blocks must count as new for strong bisimilarity. If there is no
 -- predecessor index, each state must be active (processed by the round), be in a singleton block, or have no
--- transition. If there is a predecessor index, it must be an index of the system `l` (`HasIndex`), and a search in this
--- index must go back along transitions as far as the relation `rel` requires (`reach_of`). In this case, a round must
--- have run before, and for branching bisimilarity, the signatures of that round must be cached (`CachesIds`).
+-- transition. If there is a predecessor index, it must be an index of the system `l` (`HasIndex`). In this case, a
+-- round must have run before, and for branching bisimilarity, the signatures of that round must be cached
+-- (`CachesIds`).
 pub record Awaits (rel : Relation) (l : Grouped) (r : Signed) : Type 0 where
   pub states : length r.blocks.block_ids ≡ l.states
   pub old : Option (List ℕ)
   pub follows : Follows rel l old r.blocks.block_ids r.blocks.first_new
   pub all : r.index ≡ None → AreAllActive l r.blocks.block_ids r.blocks.active
-  pub index : IfSome r.index (HasIndex (reach_of rel) l r.blocks.block_ids)
+  pub index : IfSome r.index (HasIndex rel l r.blocks.block_ids)
   pub later : ¬ (r.index ≡ None) → ¬ (old ≡ None)
       × (rel ≡ Branching → CachesIds l r.blocks.block_ids r.signatures r.cached old)
 
@@ -67,18 +66,18 @@ pub record IsBegun (rel : Relation) (l : Grouped) (p : RoundBlocks) (r : Signed)
   pub old : Option (List ℕ)
   pub blocks : r.blocks ≡ record p { active = r.blocks.active }
   pub all : r.index ≡ None → AreAllActive l r.blocks.block_ids r.blocks.active
-  pub index : IfSome r.index (HasIndex (reach_of rel) l r.blocks.block_ids)
+  pub index : IfSome r.index (HasIndex rel l r.blocks.block_ids)
   pub ready : IsReadyToSign rel l old r
 
 -- `MayBuildIndex` compares the data p of a round with its data r after a step that may build the predecessor index. The
 -- step must not have changed the blocks and the cached signature IDs. If only the empty signature was interned before
 -- the step, then only the empty signature may be interned afterwards. If there is an index in r, it must be an index of
--- the system `l`, and a search in it must go back along transitions as far as `reach` says (`HasIndex`).
-pub record MayBuildIndex (l : Grouped) (reach : Reach) (p r : Signed) : Type 0 where
+-- the system `l` (`HasIndex`).
+pub record MayBuildIndex (rel : Relation) (l : Grouped) (p r : Signed) : Type 0 where
   pub blocks : r.blocks ≡ p.blocks
   pub cached : r.cached ≡ p.cached
   pub only : p.signatures ≡ [] ∷ [] → r.signatures ≡ [] ∷ []
-  pub index : IfSome r.index (HasIndex reach l r.blocks.block_ids)
+  pub index : IfSome r.index (HasIndex rel l r.blocks.block_ids)
 
 -- `Restarts` holds if a round processes all states again, without any signatures of earlier rounds. The data of the
 -- round is p before the step that starts again, and r afterwards. This step must not have changed the blocks, the
@@ -95,11 +94,11 @@ pub record Restarts (l : Grouped) (p r : Signed) : Type 0 where
 -- and r after the search. There must still be an index of the system `l` (`HasIndex`). The active states of r, which
 -- are the states that the round processes, must include all states that the search has to find (`SearchIsComplete`).
 -- The search must not have changed the blocks, the interned signatures, and the cached signature IDs.
-pub record HasSearched (reach : Reach) (l : Grouped) (p r : Signed) : Type 0 where
+pub record HasSearched (rel : Relation) (l : Grouped) (p r : Signed) : Type 0 where
   pub blocks : r.blocks ≡ record p.blocks { active = r.blocks.active }
   pub some : ¬ (r.index ≡ None)
-  pub index : IfSome r.index (HasIndex reach l r.blocks.block_ids)
-  pub found : SearchIsComplete reach l r.blocks r.blocks.active
+  pub index : IfSome r.index (HasIndex rel l r.blocks.block_ids)
+  pub found : SearchIsComplete rel l r.blocks r.blocks.active
   pub signatures : r.signatures ≡ p.signatures
   pub cached : r.cached ≡ p.cached
 

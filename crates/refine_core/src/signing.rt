@@ -9,24 +9,24 @@ ghost use Rattle.signatures.specs.Lists.{AreIds};
 ghost use Rattle.partition.specs.Blocks.{IsMember};
 ghost use Rattle.inert.specs.Signed.{IsSignature};
 ghost use Rattle.refine_core.specs.Signatures.{HasNoSignatures, list_of};
-ghost use Rattle.refine_core.specs.Index.{HasVisited, reach_of};
+ghost use Rattle.refine_core.specs.Index.{HasVisited};
 ghost use Rattle.refine_core.specs.IndexState.{Awaits, IsBegun, IsReadyToSign, SignsEach, SignsRound};
 
-use crate::predecessors::Reach;
 use crate::signed_blocks::SignedBlocks;
 use lts::{Lts, Memory, Meter, visit_rest};
 use partition::Blocks;
 use signatures::Interner;
 use std::alloc::Global;
+use theory::Relation;
 
 /// A relation (strong or branching bisimilarity) for which rounds can compute signatures. The constant `relation` is
 /// the name of this relation in the definitions of the crate `theory`.
 pub trait Signing {
     ghost relation: { Relation };
 
-    /// Returns how far a search in the predecessor index goes back along transitions.
-    fn reach() -> Reach
-        ensures { result ≡ reach_of relation };
+    /// Returns the relation as a value of the program.
+    fn which() -> Relation
+        ensures { result ≡ relation };
 
     /// For branching bisimilarity, discards all signatures, including those that are cached from round to round. For
     /// strong bisimilarity, does nothing, because no strong signature is cached.
@@ -139,9 +139,10 @@ pub(crate) fn begin_round<S: Signing, M: Meter>(
     if round.signatures.len() > round.most_signatures {
         return round.activate_all(l);
     }
+    let relation = S::which();
     let Some(predecessors) = round.index.take() else {
         let round = S::discard_cached(round)?;
-        return round.begin_index(l, S::reach(), m);
+        return round.begin_index(l, relation, m);
     };
-    round.find_active(predecessors, l, m)
+    round.find_active(predecessors, relation, l, m)
 }
