@@ -3,7 +3,7 @@
 -- of its transitions, in ascending order and without duplicates. The pair of a transition consists of its label ID and
 -- the block ID of its target.
 use Rattle.std.proofs.Common.{rules, ◌≡◌, ◌↔◌, ℕ, ◌+◌, ◌<◌, List, [], length, slice_index, set, Contains, arith, ◌-◌}
-use Rattle.std.proofs.Common.{◌*◌, ◌/◌, ◌%◌, ◌∷◌, ◌++◌, ◌≤◌, take, map, sym, refl, ap, inl, inr, ◌∙◌}
+use Rattle.std.proofs.Common.{◌∷◌, ◌++◌, ◌≤◌, take, map, sym, refl, ap, inl, inr, ◌∙◌}
 use Rattle.std.proofs.lemmas.Grind.{common_steps}
 use Rattle.std.proofs.lemmas.List.{get_or-map, get_or-set_other, length-map, length-set}
 use Rattle.std.proofs.lemmas.List.Elements.{All-contains}
@@ -102,12 +102,6 @@ module _ (l : Grouped) (blocks : List ℕ) (s : ℕ) (h : IsLts l)
       let apart : ¬ (first_new ≤ slice_index blocks (target_of e)) = λ h. none (pair_under blocks e, c, h) in
       omega (arith, apart, ap (slice_index blocks) target) in
       inl (refl, unaffected_as_before l h.system old blocks first_new follows s still)
-
--- The outgoing transitions of a state have the places (indices) from `start` up to but excluding `end`. Let k be
--- `start` if the number of these transitions is even, and `start` + 1 otherwise. Then the number of transitions from
--- the place k on is even. So the function `read` can read these transitions two at a time.
-pub by_two : (start end k count : ℕ) → end ≡ start + count → k ≡ start + (end - start) % 2 → (n : ℕ) × (end ≡ k + n * 2)
-by_two start end k count all is = ((end - start) / 2, omega (arith, all, is))
 
 -- Let `start` be the place of the first transition of the state s, where the place of a transition is its index in the
 -- list of all transitions. The transitions of s follow each other in this list. The list `pairs_to k` has the pairs of

@@ -1,8 +1,8 @@
 -- Proofs about the predecessor index and the states that a round does not process. A block is new if the last split has
 -- made it. For strong bisimilarity, a round with a predecessor index processes each state that is not in a singleton
 -- block and has a transition to a new block.
-use Rattle.std.proofs.Common.{rules, Bool, eqb, leb, ◌&&◌, ◌∙◌, ◌≡◌, ◌⊎◌, ℕ, ◌<◌, ◌≤◌, length, slice_index, subst}
-use Rattle.std.proofs.Common.{ap, refl, inl, inr, arith}
+use Rattle.std.proofs.Common.{Bool, eqb, leb, ◌&&◌, ◌∙◌, ◌≡◌, ◌⊎◌, ℕ, ◌<◌, ◌≤◌, length, slice_index, subst}
+use Rattle.std.proofs.Common.{ap, inl, inr, arith}
 use Rattle.std.proofs.Math.Logic.{⊎_map}
 use Rattle.std.specs.List.{list_any}
 use Rattle.std.proofs.lemmas.Bool.{cases_Bool}
@@ -10,14 +10,11 @@ use Rattle.std.proofs.lemmas.Bool.Decides.{nat_tests}
 use Rattle.std.proofs.lemmas.List.{get_or_default}
 use Rattle.std.proofs.lemmas.List.Elements.{All-contains}
 use Rattle.std.proofs.lemmas.List.Folds.{Any-from_list_any, list_any_at}
-use Rattle.theory.specs.declared.relation.Relation.{Relation}
 use Rattle.theory.specs.declared.relation.Relation.TheVariants.{Strong}
 use Rattle.lts.specs.Lts.{Grouped, Triple, IsTriple, IsLts, source_of, target_of, place_at, system_of}
 use Rattle.partition.specs.Splitting.{IsSingleton}
 use Rattle.partition.specs.Blocks.{RoundBlocks, IsMember}
-use Rattle.refine_core.specs.Signatures.{Signed}
-use Rattle.refine_core.specs.Index.{SearchIsComplete, IsFoundOrSingleton, reach_of}
-use Rattle.refine_core.specs.IndexState.{AreAllActiveOrIndexed, MayBuildIndex}
+use Rattle.refine_core.specs.Index.{SearchIsComplete, IsFoundOrSingleton}
 use Rattle.refine_core.proofs.Showing.{IsUnaffected}
 use Rattle.refine_core.proofs.ActiveStates.{step_at}
 
@@ -31,7 +28,7 @@ AreUnaffected l p = (s : ℕ) → s < l.states → IsMember p.active s ⊎ IsSin
 -- that these states are the active states, which the round processes. Then each state is active, is in a singleton
 -- block, or has no transition to a block that the last split has made.
 module _ (l : Grouped) (lts : IsLts l) (q : RoundBlocks) (size : length q.block_ids ≡ l.states)
-    (finds : SearchIsComplete (reach_of Strong) l q q.active) where
+    (finds : SearchIsComplete Strong l q q.active) where
   -- Returns whether the transition e leads from the state s to a new block. A block is new if its ID is at least
   -- `first_new`.
   abbrev shows_new : ℕ → Triple → Bool
@@ -44,19 +41,9 @@ module _ (l : Grouped) (lts : IsLts l) (q : RoundBlocks) (size : length q.block_
         let new : (source_of e ≡ s) × (q.first_new ≤ slice_index q.block_ids (target_of e))
         = grind (arith, nat_tests) in
         let within = All-contains (IsTriple (length l.labels) l.states) l.places e lts.in_range.each (k, less, is) in
-        let found = (finds.new _ (omega (arith, within, size)) new.1).0 k less (ap target_of here) (tt, tt) in
+        let found = (finds.new _ (omega (arith, within, size)) new.1).0 k less (ap target_of here) (λ is. absurd cc) in
         ⊎_map (λ one. one) inl (subst (IsFoundOrSingleton q.block_ids q.active) (ap source_of here ∙ new.0) found)
     | inr none ↦ inr (inr (λ a t step. let k = step_at l s a t step in
         let shows = list_any_at (shows_new s) l.places k.place (0, 0, 0) k.below in
         grind (arith, nat_tests)))
   ]
-
--- A round has a step in which it may build the predecessor index. Let p be the data of the round before this step, and
--- let r be the data after this step. Then p and r have the same blocks. If the condition `AreAllActiveOrIndexed` holds
--- for p, it also holds for r. This condition holds if there is a predecessor index of the system, or if each state is
--- active (processed by the round), is in a singleton block, or has no transition.
-pub begun : (rel : Relation) (l : Grouped) (p r : Signed) → AreAllActiveOrIndexed p.index_state rel l p.blocks
-    → MayBuildIndex l (reach_of rel) p r
-    → (r.blocks ≡ p.blocks) × AreAllActiveOrIndexed r.index_state rel l r.blocks
-begun rel l p r index (inl same) = rw same (refl, index)
-begun rel l p r index (inr is) = search rules

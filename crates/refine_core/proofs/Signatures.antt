@@ -1,13 +1,10 @@
 -- Lemmas about the list `signature_ids`. They show that this list has the ID of an interned signature for each state
 -- (`HaveSignatures`).
-use Rattle.std.proofs.Common.{rules, ◌≡◌, ◌⊎◌, inl, inr, ℕ, ◌<◌, ◌≤◌, List, ◌++◌, length, take, slice_index}
+use Rattle.std.proofs.Common.{rules, ◌≡◌, ℕ, ◌<◌, ◌≤◌, List, ◌++◌, length, take, slice_index}
 use Rattle.std.proofs.lemmas.List.{get_or_default, take_at}
 use Rattle.signatures.specs.Lists.{AreLists, AreIds}
 use Rattle.partition.specs.Blocks.{RoundBlocks, InactiveHaveNone, AreSameOrNone, AreSplitBlocks}
-use Rattle.refine_core.specs.Signatures.{list_of, HaveSignatures, FitsIndexState}
-use Rattle.refine_core.specs.Index.{SearchIndex}
-use Rattle.refine_core.specs.declared.signed_blocks.IndexState.{IndexState}
-use Rattle.refine_core.specs.declared.signed_blocks.IndexState.TheVariants.{Searched, Pending}
+use Rattle.refine_core.specs.Signatures.{list_of, HaveSignatures}
 use Rattle.partition.specs.Splitting.{Splits}
 
 -- Suppose that the list `signature_ids` has the ID of an interned signature for each of the n states, and that further
@@ -46,20 +43,9 @@ pub ids_after_drop : {of active active' : List ℕ} {signatures : List (List (�
     → HaveSignatures of active' signatures new
 ids_after_drop {signatures = signatures} {new = new} some have size each none = search (rules, get_or_default)
 
--- Suppose that there is a predecessor index, and that the condition `FitsIndexState` holds for n. Then the index has a
--- range of entries for each of n states.
-pub fits_either : (n : ℕ) (index_state : IndexState) (e : SearchIndex) → (index_state ≡ Searched e)
-    ⊎ (index_state ≡ Pending e) → FitsIndexState n index_state
-    → length e.index.all ≡ n
-fits_either n index_state e (inl is) fits = rw is at fits
-fits_either n index_state e (inr is) fits = rw is at fits
-
 -- A split changes neither the signature ID of a state nor the number of states. Suppose that, before a split, each
--- state has the ID of an interned signature, and the predecessor index fits the number of states (`FitsIndexState`).
--- Then both are still true after the split.
-pub split_fits : (signatures : List (List (ℕ × ℕ))) (signature_ids ns : List ℕ) (p q : RoundBlocks)
-    (index_state : IndexState)
+-- state has the ID of an interned signature. Then this is still true after the split.
+pub have_after_split : {signatures : List (List (ℕ × ℕ))} {signature_ids ns : List ℕ} {p q : RoundBlocks}
     → AreSplitBlocks p ns q → HaveSignatures p.block_ids p.active signatures signature_ids
-    × FitsIndexState (length p.block_ids) index_state
-    → HaveSignatures q.block_ids q.active signatures signature_ids × FitsIndexState (length q.block_ids) index_state
-split_fits signatures signature_ids ns p q index_state split (have, fits) = search rules
+    → HaveSignatures q.block_ids q.active signatures signature_ids
+have_after_split split have = search rules

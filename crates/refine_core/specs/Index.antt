@@ -3,12 +3,12 @@
 -- each state, the transitions that lead to this state. This file defines which states the search has to find, and what
 -- holds while the search is in progress. The place of a transition is its index in the list of all transitions.
 use Rattle.std.specs.Prelude.{◌≡◌, ◌⊎◌, ℕ, ◌+◌, ◌<◌, ◌≤◌, ◌==◌, Bool, true, false, IsTrue, List, length}
-use Rattle.std.specs.Prelude.{slice_index, slice_index_or, Option, None, Some, IfSome}
+use Rattle.std.specs.Prelude.{slice_index, slice_index_or, ◌↔◌}
 use Rattle.std.specs.List.{All, IsDistinct}
 use Rattle.std.specs.Io.{StartsWith}
 use Rattle.theory.specs.System.{internal}
 use Rattle.theory.specs.declared.relation.Relation.{Relation}
-use Rattle.theory.specs.declared.relation.Relation.TheVariants.{Strong, Branching}
+use Rattle.theory.specs.declared.relation.Relation.TheVariants.{Branching}
 use Rattle.lts.specs.Labels.{text_of}
 use Rattle.lts.specs.Lts.{Grouped, Triple, source_of, label_of, target_of, place_at}
 use Rattle.lts.specs.Incoming.{Entries, IsIndex}
@@ -17,49 +17,21 @@ use Rattle.lts.specs.Meter.{Counts, HasRoomFor}
 use Rattle.partition.specs.Splitting.{IsSingleton}
 use Rattle.partition.specs.Blocks.{RoundBlocks, AreActive, IsMember}
 use Rattle.refine_core.specs.declared.predecessors.Affected.{Affected}
-use Rattle.refine_core.specs.declared.predecessors.Reach.{Reach}
-use Rattle.refine_core.specs.declared.predecessors.Reach.TheVariants.{Before, Back}
-
--- `SearchIndex` has two fields. The field `index` is the predecessor index, which has the transitions that lead to each
--- state. The field `reach` says how far a search in this index goes back along transitions.
-pub record SearchIndex : Type 0 where
-  pub index : Entries
-  pub reach : Reach
-
--- Returns true if a search goes back along inert transitions. In this case, the predecessor index stores the internal
--- transitions to each state separately, as the internal group of the state.
-abbrev pub is_separate : Reach → Bool
-is_separate Before = false
-is_separate Back = true
-
--- Returns how far a search goes back along transitions. For strong bisimilarity, the search finds only the sources of
--- the transitions into new blocks, which are the blocks that the last split has made. For branching bisimilarity, the
--- search also goes back along inert transitions.
-abbrev pub reach_of : Relation → Reach
-reach_of Strong = Before
-reach_of Branching = Back
 
 -- `IsInner` holds for the transition at the place p, which is an index in the list of all transitions, under two
--- conditions. First, the source and the target of the transition are in the same block. Second, a search goes back
--- along inert transitions (`reach` is `Back`).
-abbrev pub IsInner : Reach → Grouped → List ℕ → ℕ → Type 0
-IsInner reach l of p = (reach ≡ Back)
+-- conditions. First, the source and the target of the transition are in the same block. Second, the relation is
+-- branching bisimilarity, for which a search goes back along inert transitions.
+abbrev pub IsInner : Relation → Grouped → List ℕ → ℕ → Type 0
+IsInner rel l of p = (rel ≡ Branching)
     × (slice_index of (source_of (place_at l.places p)) ≡ slice_index of (target_of (place_at l.places p)))
 
--- `IsSearchIndex` holds if `e` has a predecessor index of the system `l`, which has, for each state, the transitions
--- that lead to this state. If a search in this index goes back along inert transitions, the index must store the inert
--- transitions to each state separately, as the internal group of the state. The internal group may also have internal
--- transitions that are not inert.
-abbrev pub IsSearchIndex : Grouped → List ℕ → SearchIndex → Type 0
-IsSearchIndex l of e = IsIndex l (IsInner e.reach l of) e.index
-
--- `HasIndex` holds under three conditions. First, the list `of` has the block ID of each state of the system `l`.
--- Second, `e` contains a predecessor index of this system (`IsSearchIndex`). Third, the field `reach` of `e` is equal
--- to the argument `reach`, which says how far a search in this index goes back along transitions.
-pub record HasIndex (reach : Reach) (l : Grouped) (of : List ℕ) (e : SearchIndex) : Type 0 where
+-- `HasIndex` holds under two conditions. First, the list `of` has the block ID of each state of the system `l`. Second,
+-- x is a predecessor index of this system, which has, for each state, the transitions that lead to this state. For
+-- branching bisimilarity, the index must store the inert transitions to each state separately, as the internal group of
+-- the state. The internal group may also have internal transitions that are not inert.
+pub record HasIndex (rel : Relation) (l : Grouped) (of : List ℕ) (x : Entries) : Type 0 where
   pub states : length of ≡ l.states
-  pub index : IsSearchIndex l of e
-  pub reach_is : e.reach ≡ reach
+  pub index : IsIndex l (IsInner rel l of) x
 
 -- `IsFoundOrSingleton` holds if the state s is in the list `found` of the states that a search has found, or if s is in
 -- a singleton block (a block with one state).
@@ -67,53 +39,51 @@ abbrev pub IsFoundOrSingleton : List ℕ → List ℕ → ℕ → Type 0
 IsFoundOrSingleton of found s = IsMember found s ⊎ IsSingleton of s
 
 -- `IsAsked` holds if a search has to find the source of the transition at the place p, which is an index in the list of
--- all transitions. The argument `block` is `None` or a block ID. For `None`, the search has to find the source of every
--- transition. For a block ID, the search has to find the source only if the transition is internal and its source is in
--- this block.
-abbrev pub IsAsked : Option ℕ → Grouped → List ℕ → ℕ → Type 0
-IsAsked block l of p = IfSome block (λ b. text_of l.labels (label_of (place_at l.places p)) ≡ internal)
-    × IfSome block (λ b. slice_index of (source_of (place_at l.places p)) ≡ b)
+-- all transitions. If `inert` is false, the search has to find the source of every transition. If `inert` is true, the
+-- search has to find the source only if the transition is inert. This means that the transition is internal, and that
+-- its source and its target are in the same block.
+abbrev pub IsAsked : Bool → Grouped → List ℕ → ℕ → Type 0
+IsAsked inert l of p = IsTrue inert → (text_of l.labels (label_of (place_at l.places p)) ≡ internal)
+    × (slice_index of (source_of (place_at l.places p)) ≡ slice_index of (target_of (place_at l.places p)))
 
--- `FindsSources` holds if a search has found the sources of certain transitions to the state t. The argument `block` is
--- `None` or a block ID, and determines which transitions these are (`IsAsked`). For `None`, they are all transitions to
--- t. For a block ID, they are the internal transitions to t whose sources are in this block. So if `block` is the ID of
--- the block of t, they are the inert transitions to t. Sources in singleton blocks (blocks with one state) need not be
--- found.
-abbrev pub FindsSources : Option ℕ → Grouped → List ℕ → List ℕ → ℕ → Type 0
-FindsSources block l of found t = (p : ℕ) → p < length l.places → target_of (place_at l.places p) ≡ t
-    → IsAsked block l of p → IsFoundOrSingleton of found (source_of (place_at l.places p))
+-- `FindsSources` holds if a search has found the sources of certain transitions to the state t. If `inert` is false,
+-- these are all transitions to t. If `inert` is true, they are the inert transitions to t (`IsAsked`). Sources in
+-- singleton blocks (blocks with one state) need not be found.
+abbrev pub FindsSources : Bool → Grouped → List ℕ → List ℕ → ℕ → Type 0
+FindsSources inert l of found t = (p : ℕ) → p < length l.places → target_of (place_at l.places p) ≡ t
+    → IsAsked inert l of p → IsFoundOrSingleton of found (source_of (place_at l.places p))
 
 -- `FindsNew` holds if a search has found all states that it has to find for the state t of a new block. A new block is
 -- a block that the last split has made. The search has to find the sources of all transitions to t. If the search goes
--- back along inert transitions (`reach` is `Back`), it has to find t itself, too. States in singleton blocks (blocks
--- with one state) need not be found.
-abbrev pub FindsNew : Reach → Grouped → List ℕ → List ℕ → ℕ → Type 0
-FindsNew reach l of found t = FindsSources None l of found t × (reach ≡ Back → IsFoundOrSingleton of found t)
+-- back along inert transitions, which it does for branching bisimilarity, it has to find t itself, too. States in
+-- singleton blocks (blocks with one state) need not be found.
+abbrev pub FindsNew : Relation → Grouped → List ℕ → List ℕ → ℕ → Type 0
+FindsNew rel l of found t = FindsSources false l of found t × (rel ≡ Branching → IsFoundOrSingleton of found t)
 
 -- `SearchIsComplete` holds if a search has found all states that it has to find, and these states are in the list
 -- `found`. A block is new if the last split has made it, and otherwise it is old. For each state t of a new block, the
--- search has to find the sources of all transitions to t. If `reach` is `Back`, the search has to find more states:
--- each state of a new block, and, for each found state t of an old block, the sources of the inert transitions to t.
--- States in singleton blocks (blocks with one state) need not be found.
-pub record SearchIsComplete (reach : Reach) (l : Grouped) (p : RoundBlocks) (found : List ℕ) : Type 0 where
+-- search has to find the sources of all transitions to t. For branching bisimilarity, the search has to find more
+-- states: each state of a new block, and, for each found state t of an old block, the sources of the inert transitions
+-- to t. States in singleton blocks (blocks with one state) need not be found.
+pub record SearchIsComplete (rel : Relation) (l : Grouped) (p : RoundBlocks) (found : List ℕ) : Type 0 where
   pub new : (t : ℕ) → t < length p.block_ids → p.first_new ≤ slice_index p.block_ids t
-      → FindsNew reach l p.block_ids found t
-  pub back : reach ≡ Back → (t : ℕ) → IsMember found t → slice_index p.block_ids t < p.first_new
-      → FindsSources (Some (slice_index p.block_ids t)) l p.block_ids found t
+      → FindsNew rel l p.block_ids found t
+  pub back : rel ≡ Branching → (t : ℕ) → IsMember found t → slice_index p.block_ids t < p.first_new
+      → FindsSources true l p.block_ids found t
 
 -- `AreFound` holds under two conditions. First, the list `found` contains all states that a search has to find
 -- (`SearchIsComplete`). Second, the states in this list are in strictly ascending order.
-pub record AreFound (reach : Reach) (l : Grouped) (p : RoundBlocks) (found : List ℕ) : Type 0 where
+pub record AreFound (rel : Relation) (l : Grouped) (p : RoundBlocks) (found : List ℕ) : Type 0 where
   pub ascending : AreActive l.states found
-  pub complete : SearchIsComplete reach l p found
+  pub complete : SearchIsComplete rel l p found
 
 -- Returns, for each state, a range of entries of the predecessor index `x`. Each entry in the range of a state belongs
--- to a transition to this state. If the first argument is `None`, the range of a state has the entries of all
--- transitions to the state. If the first argument is a block ID, the range has only the internal group of the state,
--- which has the entries of internal transitions to the state. This range is the same for all block IDs.
-abbrev pub ranges_of : Option ℕ → Entries → List (ℕ × ℕ)
-ranges_of None x = x.all
-ranges_of (Some b) x = x.internal
+-- to a transition to this state. If the first argument is false, the range of a state has the entries of all
+-- transitions to the state. If the first argument is true, the range has only the internal group of the state, which
+-- has the entries of internal transitions to the state.
+abbrev pub ranges_of : Bool → Entries → List (ℕ × ℕ)
+ranges_of false x = x.all
+ranges_of true x = x.internal
 
 -- `IsNotLookedUp` holds if no transition whose place is in the list `visited` leads to the state t. This list has the
 -- places of the transitions that were visited (read and counted) in this round. The place of a transition is its index
@@ -127,10 +97,10 @@ IsNotLookedUp places visited t = All (λ k. ¬ (target_of (place_at places k) �
 -- state was visited (read and counted) before the step, then no transition to this other state was visited during the
 -- step. The list of the found states is `before` before the step, and `found` after the step. The list of the places
 -- (indices) of the visited transitions is `old` before the step, and `visited` after the step.
-pub record HasLookedUp (block : Option ℕ) (l : Grouped) (of : List ℕ) (t : ℕ) (before found old visited : List ℕ) :
+pub record HasLookedUp (inert : Bool) (l : Grouped) (of : List ℕ) (t : ℕ) (before found old visited : List ℕ) :
     Type 0 where
   pub more : StartsWith found before
-  pub sources : FindsSources block l of found t
+  pub sources : FindsSources inert l of found t
   pub others : (s : ℕ) → ¬ (s ≡ t) → IsNotLookedUp l.places old s → IsNotLookedUp l.places visited s
 
 -- `HasVisited` holds under three conditions. First, the list `visited` has places of transitions, and has no place
@@ -149,8 +119,7 @@ IsUnmarked marks = (s : ℕ) → ¬ IsTrue (slice_index_or marks s false)
 -- `AreMarked` holds under two conditions. First, the marked states are exactly the states in the list `found`. The
 -- state s is marked if the element of the list `marks` at the index s is true. Second, no state is in `found` twice.
 pub record AreMarked (marks : List Bool) (found : List ℕ) : Type 0 where
-  pub each : All (λ s. IsTrue (slice_index_or marks s false)) found
-  pub all : (s : ℕ) → IsTrue (slice_index_or marks s false) → IsMember found s
+  pub is : (s : ℕ) → IsTrue (slice_index_or marks s false) ↔ IsMember found s
   pub once : IsDistinct (λ s t. s == t) found
 
 -- `MarksFound` holds under two conditions. First, the list of marks in the record `at` has one entry for each of the
@@ -161,15 +130,15 @@ pub record MarksFound (states : ℕ) (at : Affected) : Type 0 where
   pub marked : AreMarked at.marks.items at.states.items
 
 -- `SearchIsOn` holds while a search is in progress. The record `at` has the predecessor index, the marks of the states,
--- and the states that were found so far. The predecessor index must be correct (`IsSearchIndex`), and exactly the found
+-- and the states that were found so far. The predecessor index must be correct (`IsIndex`), and exactly the found
 -- states must be marked. The list `xs` must have the places (indices) of the transitions that were visited so far. For
 -- each of them, the meter must have counted one visit (read of a transition). When the search began, the meter must
 -- have had room for one visit of each transition. The record `start` has the counts of the meter when the search began,
 -- and `now` has its present counts.
-pub record SearchIsOn (l : Grouped) (of : List ℕ) (reach : Reach) (start now : Counts) (at : Affected) (xs : List ℕ) :
+pub record SearchIsOn (l : Grouped) (of : List ℕ) (rel : Relation) (start now : Counts) (at : Affected) (xs : List ℕ) :
     Type 0 where
   pub blocks : length of ≡ l.states
-  pub index : IsSearchIndex l of (record { index = at.incoming; reach = reach })
+  pub index : IsIndex l (IsInner rel l of) at.incoming
   pub marked : MarksFound (length of) at
   pub visited : HasVisited l.places start now xs
   pub room : HasRoomFor start 0 (length l.places)

@@ -5,7 +5,7 @@ use Rattle.theory.specs.System.{System}
 use Rattle.theory.specs.Blocks.{Split, SameBlocks, OneBlock, Underway}
 use Rattle.lts.specs.Meter.{Counts, Costs}
 use Rattle.lts.specs.Lts.{Grouped, system_of}
-use Rattle.partition.specs.Partition.{AreBlocks}
+use Rattle.partition.specs.Splitting.{Splits}
 use Rattle.partition.specs.Sizes.{HalvesBlocks}
 use Rattle.partition.specs.Renumberings.{WereHalved, renumberings}
 use Rattle.refine_core.specs.Signatures.{Signed}
@@ -13,18 +13,14 @@ use Rattle.refine_core.specs.IndexState.{Awaits}
 
 -- `IsNextRound` holds if q is the data after one round that started with the block IDs `of`. The blocks of q must
 -- result from splitting the blocks of `of` by signatures (`Split`). There were `count` blocks before the round, so a
--- block of q is new if its ID is at least `count`. Each new block must have at most half of the states of the old block
--- that it comes from. Each state must keep its block ID, or be in a new block. There must be as many blocks as before
--- if and only if the partition is the same as before. The data q must be ready for the next round (`Awaits`).
+-- block of q is new if its ID is at least `count`. Each state must keep its block ID, or be in a new block (`Splits`).
+-- Each new block must have at most half of the states of the old block that it comes from. The data q must be ready for
+-- the next round (`Awaits`). There must be as many blocks as before if and only if the partition is the same as before.
 pub record IsNextRound (rel : Relation) (l : Grouped) (of : List ℕ) (count : ℕ) (q : Signed) : Type 0 where
   pub split : Split rel (system_of l) (slice_index of) (slice_index q.blocks.block_ids)
-  pub blocks : AreBlocks q.blocks.block_ids q.blocks.count
-  pub first_new : q.blocks.first_new ≡ count
-  pub awaits : Awaits rel l q
+  pub parts : (ids : List ℕ) × Splits of count (slice_index ids) q.blocks.block_ids q.blocks.count
   pub halves : HalvesBlocks of count q.blocks.block_ids
-  pub grows : count ≤ q.blocks.count
-  pub stays : (s : ℕ) → s < l.states → slice_index q.blocks.block_ids s < count →
-      slice_index q.blocks.block_ids s ≡ slice_index of s
+  pub awaits : Awaits rel l q
   pub same : (q.blocks.count ≡ count) ↔ SameBlocks (system_of l) (slice_index of) (slice_index q.blocks.block_ids)
 
 -- `AreRounds` holds if a sequence of splits leads from the partition that has only one block to the partition `now`.

@@ -1,10 +1,9 @@
 -- Definitions for the data of a round and for the signatures of the states. Each signature is interned: equal
 -- signatures are stored once and have the same ID.
-use Rattle.std.specs.Prelude.{◌≡◌, ℕ, List, [], ◌∷◌, length, slice_index}
+use Rattle.std.specs.Prelude.{◌≡◌, ℕ, List, [], ◌∷◌, length, slice_index, Option}
 use Rattle.signatures.specs.Lists.{list_at, AreIds}
 use Rattle.partition.specs.Blocks.{RoundBlocks, InactiveHaveNone}
-use Rattle.refine_core.specs.declared.signed_blocks.IndexState.{IndexState}
-use Rattle.refine_core.specs.declared.signed_blocks.IndexState.TheVariants.{Absent, Searched, Pending}
+use Rattle.lts.specs.Incoming.{Entries}
 
 -- Returns the signature of the state s. The list `signature_ids` has the ID of this signature at the index s, and the
 -- list `signatures` has the signatures in the order of their IDs.
@@ -14,15 +13,15 @@ list_of signatures signature_ids s = list_at signatures (slice_index signature_i
 -- `Signed` is the data of a round: the blocks, the signatures, the predecessor index, and the visited transitions. The
 -- list `signatures` has the signatures in the order of their IDs. For each state, `signature_ids` has the ID of the
 -- signature by which the split separates the state from other states of its block (the split signature). For each
--- state, `cached` has the ID of the signature that is cached from round to round. The list `visited` has the places of
--- the transitions that were visited (read and counted) in this round. The place of a transition is its index in the
--- list of all transitions.
+-- state, `cached` has the ID of the signature that is cached from round to round. The field `index` is `None` before
+-- the predecessor index is built. The list `visited` has the places of the transitions that were visited (read and
+-- counted) in this round. The place of a transition is its index in the list of all transitions.
 pub record Signed : Type 0 where
   pub blocks : RoundBlocks
   pub signatures : List (List (ℕ × ℕ))
   pub signature_ids : List ℕ
   pub cached : List ℕ
-  pub index_state : IndexState
+  pub index : Option Entries
   pub visited : List ℕ
 
 -- `HaveSignatures` holds if the list `signature_ids` has the ID of an interned signature for each state. For each state
@@ -32,12 +31,6 @@ pub record HaveSignatures (of active : List ℕ) (signatures : List (List (ℕ �
     pub each : AreIds signatures signature_ids
     pub states : length signature_ids ≡ length of
     pub none : InactiveHaveNone active signature_ids
-
--- `FitsIndexState` holds if there is no predecessor index, or if the index was built for a system with n states.
-abbrev pub FitsIndexState : ℕ → IndexState → Type 0
-FitsIndexState n Absent = Unit {0}
-FitsIndexState n (Searched e) = length e.index.all ≡ n
-FitsIndexState n (Pending e) = length e.index.all ≡ n
 
 -- `HasNoSignatures` holds under two conditions. First, the list `signatures` of the interned signatures has only the
 -- empty signature. Second, the list `cached` has the ID of the empty signature for each state. The list `of` has the

@@ -17,15 +17,15 @@
 //! free ID. Let `first_new` be the next free ID before the last split. So a block is new since the last split if and
 //! only if its ID is at least `first_new`.
 //!
-//! At first, the active states are all states that have a transition. A singleton block is a block with one state. Each
-//! time that the number of singleton blocks has grown by more than 1/32 of the number of active states, the states in
-//! singleton blocks are dropped from the active states. A round is late if fewer than a quarter of the blocks are new.
-//! The predecessor index (`lts::Incoming`) is built when the late rounds together have done as much work as a few
-//! rounds over all states would do (`SignedBlocks::needs_index`). Up to this time, the late rounds have taken at most
-//! about twice as long as building the index takes. The place of a transition is its index in the list of all
-//! transitions. For each state, the predecessor index has the places of the transitions that lead to this state. With
-//! one exception, which is described below, each later round begins with a search that goes backwards from the states
-//! of new blocks (`predecessors`):
+//! A singleton block is a block with one state. At first, the active states are all states that have a transition and
+//! are not in a singleton block. Each time that the number of singleton blocks has grown by more than 1/32 of the
+//! number of active states, the states in singleton blocks are dropped from the active states. A round is late if fewer
+//! than a quarter of the blocks are new. The predecessor index (`lts::Incoming`) is built when the late rounds together
+//! have done as much work as a few rounds over all states would do (`SignedBlocks::needs_index`). Up to this time, the
+//! late rounds have taken at most about twice as long as building the index takes. The place of a transition is its
+//! index in the list of all transitions. For each state, the predecessor index has the places of the transitions that
+//! lead to this state. With one exception, which is described below, each later round begins with a search that goes
+//! backwards from the states of new blocks (`predecessors`):
 //!
 //! ```text
 //! block   0     0     0     0     0     2     1       first_new = 2: state 5 is in a new block
@@ -67,9 +67,9 @@
 //! For branching bisimilarity, each round discards the signatures of earlier rounds until the index is built. After
 //! that, the signatures of earlier rounds stay stored. Let k be the number of active states when the index is built. A
 //! round over these states makes at most k + 1 signatures: one for each active state, and the empty signature. If more
-//! than 2 * (k + 1) signatures are stored after a later round, all signatures are discarded. The next round then
-//! processes every state that has a transition and is not in a singleton block. From then on, k is the number of the
-//! states that this round processes.
+//! than 2 * (k + 1) signatures are stored after a later round, the next round begins by discarding all signatures. It
+//! then processes every state that has a transition and is not in a singleton block. From then on, k is the number of
+//! the states that this round processes.
 //!
 //! A state moves to a new block only if the new block has at most half of the states of the old block (`partition`). So
 //! a state moves to a new block at most log2 n times, where n is the number of states. Each time, the search goes back

@@ -1,16 +1,15 @@
 //! The loop over the rounds of refinement. The loop ends after the first round that splits no block.
-ghost use Rattle.std.specs.Prelude.{◌≡◌, ◌⊎◌, ◌↔◌, ℕ, ◌*◌, ◌<◌, ◌≤◌, [], length, slice_index, IfOk, OnOk, OnErr};
+ghost use Rattle.std.specs.Prelude.{◌≡◌, ◌↔◌, ℕ, ◌*◌, ◌≤◌, length, slice_index, IfOk, OnOk, OnErr};
 ghost use Rattle.theory.specs.Bisimulation.{Bisimilar};
 ghost use Rattle.theory.specs.Blocks.{Turns, EachTwo};
 ghost use Rattle.lts.specs.Meter.{HasRoomFor, Costs, CostsUpTo};
-ghost use Rattle.lts.specs.Lts.{row_of, system_of};
+ghost use Rattle.lts.specs.Lts.{system_of};
 ghost use Rattle.partition.specs.Partition.{IsSomePartition};
-ghost use Rattle.partition.specs.Blocks.{IsMember, AreActive};
 ghost use Rattle.refine_core.specs.IndexState.{Awaits};
 ghost use Rattle.refine_core.specs.Rounds.{IsNextRound, RenumbersFew};
 
-use crate::signed_blocks::SignedBlocks;
-use crate::signing::{Signing, sign_each};
+use crate::signed_blocks::{SignedBlocks, splittable_states};
+use crate::signing::{Signing, begin_round, sign_and_visit_rest};
 use lts::{Lts, Memory, Meter};
 use partition::{Blocks, Partition, renumber, renumberings_are_few};
 use std::alloc::Global;
@@ -43,8 +42,9 @@ pub fn refine_blocks<S: Signing, M: Meter>(
     ensures err { OnErr result
         (CostsUpTo (M.counted m.old) (M.counted m.new) l.now.states (length l.now.places)) }
 {
-    let active = with_rows(alloc, l)?;
-    let blocks = Blocks::single_block(alloc, l.states(), active)?;
+    let blocks = Blocks::single_block(alloc, l.states(), Vec::new(alloc))?;
+    let active = splittable_states(alloc, &blocks, l)?;
+    let blocks = blocks.with_active(active);
     let mut round = SignedBlocks::new(alloc, blocks)?;
     theory::refinement_goes_on();
     theory::final_blocks_are_bisimilarity();
@@ -90,27 +90,9 @@ pub fn refine<S: Signing, M: Meter>(
     renumber(alloc, blocks.block_ids(), blocks.count())
 }
 
-/// Returns the states that have an outgoing transition, in ascending order. The header of an `.aut` file can declare
-/// many states without an outgoing transition, and rounds need not process these states.
-fn with_rows<M: Meter>(alloc: Global, l: &Lts<M>) -> Result<Vec<u32>, Memory>
-    ensures ascending { IfOk result (λ v. AreActive l.now.states v.items) }
-    ensures rows { IfOk result
-        (λ v. (s : ℕ) → s < l.now.states → IsMember v.items s ⊎ (row_of s l.now.places ≡ [])) }
-{
-    let mut active = Vec::with_capacity(alloc, l.states() as usize)?;
-    for s in 0..l.states() {
-        let (start, end) = l.row(s);
-        if start == end {
-            continue;
-        }
-        active.push(s)?;
-    }
-    Ok(active)
-}
-
-/// Makes one round: computes the signatures of the active states (the states that the round processes), and splits the
-/// blocks by these signatures (`Split`). If the call fails, the meter has counted at most one round, and the number of
-/// visits (counted reads of transitions) is at most the number of transitions.
+/// Makes one round: finds the active states (the states that the round processes), computes their signatures, and
+/// splits the blocks by these signatures (`Split`). If the call fails, the meter has counted at most one round, and the
+/// number of visits (counted reads of transitions) is at most the number of transitions.
 fn next_round<S: Signing, M: Meter>(
     round: SignedBlocks,
     l: &Lts<M>,
@@ -132,9 +114,11 @@ fn next_round<S: Signing, M: Meter>(
     lts::rows_are_steps();
     l.invariants();
     m.start_round();
-    let signed = sign_each::<S, M>(l, round, m)?;
+    let before = m.visits();
+    let begun = begin_round::<S, M>(l, round, m)?;
+    let signed = sign_and_visit_rest::<S, M>(l, begun, before, m)?;
     signed.invariants();
-    let next = signed.split(l)?;
+    let next = signed.split()?;
     next.invariants();
     Ok(next)
 }

@@ -1,24 +1,23 @@
 //! The data of a refinement between two of its steps: the blocks, the active states (the states that the round
 //! processes), the signatures, and the predecessor index.
-ghost use Rattle.std.specs.Prelude.{◌≡◌, ℕ, ◌+◌, ◌*◌, ◌<◌, ◌≤◌, [], length, slice_index, IfOk};
+ghost use Rattle.std.specs.Prelude.{◌≡◌, ℕ, ◌+◌, ◌*◌, ◌<◌, ◌≤◌, [], length, slice_index, IfOk, None};
 ghost use Rattle.memory.specs.declared.limits.TheConstants.{MOST_STATES};
 ghost use Rattle.signatures.specs.Lists.{AreLists};
 ghost use Rattle.partition.specs.Partition.{AreBlocks};
-ghost use Rattle.partition.specs.Blocks.{AreActive, InactiveHaveNone};
-ghost use Rattle.refine_core.specs.Signatures.{HaveSignatures, FitsIndexState, HasNoSignatures};
-ghost use Rattle.refine_core.specs.IndexState.{AreAllActive, ActivatesAll, IsSplitOf, MayBuildIndex, SearchesIfPending};
-ghost use Rattle.refine_core.specs.IndexState.{MayDropSingletons};
-ghost use Rattle.refine_core.specs.Index.{SearchIndex, IsSearchIndex, HasVisited};
-ghost use Rattle.refine_core.specs.declared.signed_blocks.IndexState.TheVariants.{Absent, Pending};
+ghost use Rattle.partition.specs.Blocks.{AreActive, AreSplitBlocks, DropsSingletons, InactiveHaveNone};
+ghost use Rattle.refine_core.specs.Signatures.{HaveSignatures, HasNoSignatures};
+ghost use Rattle.refine_core.specs.IndexState.{AreAllActive, HasSearched, MayBuildIndex, Restarts};
+ghost use Rattle.refine_core.specs.Index.{HasIndex, HasVisited};
 ghost use Rattle.lts.specs.Meter.{HasRoomFor, Costs};
 
-use crate::predecessors::{Predecessors, Reach};
+use crate::predecessors::{Predecessors, Search};
 use inert::Signer;
 use lts::{Lts, Memory, Meter, Visited};
 use partition::Blocks;
 use signatures::{EMPTY, Interner};
 use std::alloc::Global;
 use std::marker::Model;
+use theory::Relation;
 
 /// A block is new if the last split has made it. A round is late if the number of new blocks is less than the number of
 /// all blocks divided by `LATE_ROUND_FRACTION`, rounded down. The rounds that follow a late round usually have few
@@ -43,20 +42,6 @@ const ROW_LENGTH_PER_FULL_ROUND: u32 = 2;
 /// than processing one state.
 const BLOCKS_PER_STATE: u32 = 8;
 
-/// The state of the predecessor index: whether the index was built, and whether a search for the states that the next
-/// round processes is pending.
-#[derive(Drop)]
-pub(crate) enum IndexState {
-    /// There is no predecessor index yet. The next round processes the same states as this round, except for the states
-    /// that `drop_singletons` drops.
-    Absent,
-    /// There is a predecessor index, and the states that the round processes are known.
-    Searched(Predecessors),
-    /// There is a predecessor index, but the search for the states that the next round processes has not been made yet.
-    /// This search starts at the states of the blocks that the last split has made.
-    Pending(Predecessors),
-}
-
 /// The blocks, the signatures, and the predecessor index of a round. The signatures are interned in `signatures`. For
 /// each state that the round processes, `signature_ids` has the ID of the signature by which the split separates the
 /// state from other states of its block. For each other state, `signature_ids` has the ID of the empty signature.
@@ -71,10 +56,13 @@ pub struct SignedBlocks {
     /// The pairs (label, target block) of the transitions of one state. The same memory is used for one state after the
     /// other.
     pub(crate) pairs: Vec<(u32, u32)>,
-    pub(crate) index_state: IndexState,
+    /// The predecessor index, or `None` before it is built. Without an index, a round processes the same states as the
+    /// round before, except for the states that `drop_singletons` drops. With an index, each round begins with a search
+    /// for the states that it processes, or processes all states that can be split (`activate_all`).
+    pub(crate) index: Option<Predecessors>,
     pub(crate) visited: Visited,
     /// If there is a predecessor index, this is the number of signatures that may be stored after a round. If more
-    /// signatures are stored, all signatures are discarded.
+    /// signatures are stored, the next round begins by discarding all signatures.
     pub(crate) most_signatures: u32,
     /// The total work of all late rounds that were made without a predecessor index. A round is late if few blocks are
     /// new. The method `needs_index` defines the work of a late round.
@@ -82,8 +70,7 @@ pub struct SignedBlocks {
 }
 
 impl Model for SignedBlocks {
-    ghost use Rattle.std.specs.Prelude.{length};
-    ghost use Rattle.refine_core.specs.Signatures.{Signed, HaveSignatures, FitsIndexState};
+    ghost use Rattle.refine_core.specs.Signatures.{Signed, HaveSignatures};
 
     ghost Value = { Signed };
 
@@ -92,12 +79,11 @@ impl Model for SignedBlocks {
       signatures = r.signatures;
       signature_ids = r.signature_ids.items;
       cached = r.signer;
-      index_state = r.index_state;
+      index = r.index;
       visited = r.visited;
     } };
 
-    ghost invariant = { λ r. HaveSignatures r.blocks.block_ids r.blocks.active r.signatures r.signature_ids.items
-        × FitsIndexState (length r.blocks.block_ids) r.index_state };
+    ghost invariant = { λ r. HaveSignatures r.blocks.block_ids r.blocks.active r.signatures r.signature_ids.items };
 }
 
 impl SignedBlocks {
@@ -105,7 +91,7 @@ impl SignedBlocks {
     /// predecessor index.
     pub fn new(alloc: Global, blocks: Blocks) -> Result<SignedBlocks, Memory>
         ensures blocks { IfOk result (λ r. r.blocks ≡ blocks) }
-        ensures absent { IfOk result (λ r. r.index_state ≡ Absent) }
+        ensures absent { IfOk result (λ r. r.index ≡ None) }
         ensures none { IfOk result (λ r. r.visited ≡ []) }
     {
         let states = blocks.block_ids().len();
@@ -117,7 +103,7 @@ impl SignedBlocks {
             visited: Visited::new(alloc),
             signer: Signer::new(alloc),
             pairs: Vec::new(alloc),
-            index_state: IndexState::Absent,
+            index: None,
             most_signatures: u32::MAX,
             late_work: 0,
         })
@@ -165,11 +151,16 @@ impl SignedBlocks {
     /// states were last dropped. If there is a predecessor index, the function does nothing, because the search in the
     /// index never finds states in singleton blocks.
     pub fn drop_singletons(mut self) -> Result<SignedBlocks, Memory>
-        ensures { IfOk result (MayDropSingletons self) }
+        ensures same { IfOk result (λ r. r ≡ record self {
+          blocks = record self.blocks { active = r.blocks.active };
+          signature_ids = r.signature_ids;
+        }) }
+        ensures leaves { IfOk result (λ r.
+            DropsSingletons self.blocks.block_ids self.blocks.active r.blocks.active) }
     {
-        let IndexState::Absent = &self.index_state else {
+        if self.index.is_some() {
             return Ok(self);
-        };
+        }
         self.signatures.invariants();
         let blocks = self
             .blocks
@@ -179,9 +170,8 @@ impl SignedBlocks {
 
     /// Discards all signatures, including the cached signatures. Afterwards, each state has the empty signature.
     pub fn discard_signatures(mut self) -> Result<SignedBlocks, Memory>
-        ensures same { IfOk result (λ r. (r.blocks ≡ self.blocks)
-            × (r.index_state ≡ self.index_state)) }
-        ensures visited { IfOk result (λ r. r.visited ≡ self.visited) }
+        ensures same { IfOk result (λ r. (r.blocks ≡ self.blocks) × (r.index ≡ self.index)
+            × (r.visited ≡ self.visited)) }
         ensures discarded { IfOk result
             (λ r. HasNoSignatures r.blocks.block_ids r.signatures r.cached) }
     {
@@ -200,14 +190,14 @@ impl SignedBlocks {
     pub fn begin_index<M: Meter>(
         mut self,
         l: &Lts<M>,
-        reach: Reach,
+        relation: Relation,
         m: &mut M,
     ) -> Result<SignedBlocks, Memory>
         requires states { length self.blocks.block_ids ≡ l.now.states }
-        requires absent { self.index_state ≡ Absent }
+        requires absent { self.index ≡ None }
         requires none { self.visited ≡ [] }
         requires room { HasRoomFor (M.counted m.old) 0 (length l.now.places) }
-        ensures begins { IfOk result (MayBuildIndex l.now reach self) }
+        ensures begins { IfOk result (MayBuildIndex relation l.now self) }
         ensures visited { IfOk result
             (λ r. HasVisited l.now.places (M.counted m.old) (M.counted m.new) r.visited) }
         ensures cost { Costs (M.counted m.old) (M.counted m.new) 0 0 (length l.now.places) }
@@ -220,11 +210,11 @@ impl SignedBlocks {
         // memory for the index is allocated.
         self.signatures = Interner::new(self.alloc, 1)?;
         let blocks = self.blocks.with_positions(self.alloc)?;
-        let (predecessors, visited) = Predecessors::new(self.alloc, l, reach, m)?;
+        let (predecessors, visited) = Predecessors::new(self.alloc, l, relation, m)?;
         let most_signatures = most_signatures(blocks.active());
         Ok(SignedBlocks {
             blocks,
-            index_state: IndexState::Searched(predecessors),
+            index: Some(predecessors),
             most_signatures,
             visited,
             ..self
@@ -266,102 +256,74 @@ impl SignedBlocks {
         self
     }
 
-    /// If a search of the predecessor index is pending (`IndexState::Pending`), this function makes the search, which
-    /// finds the active states of this round (the states that the round processes). The search starts at the states of
-    /// new blocks, which are the blocks that the last split has made. It looks up the transitions that lead to these
-    /// states. For branching bisimilarity, it then goes back along inert transitions. Each lookup is a visit (a counted
-    /// read of a transition).
-    pub fn find_active<M: Meter>(mut self, l: &Lts<M>, m: &mut M) -> Result<SignedBlocks, Memory>
-        requires states { length self.blocks.block_ids ≡ l.now.states }
-        requires pending { (e : SearchIndex) → self.index_state ≡ Pending e
-            → IsSearchIndex l.now self.blocks.block_ids e }
+    /// Searches the predecessor index for the active states of this round (the states that the round processes). The
+    /// search starts at the states of new blocks, which are the blocks that the last split has made. It looks up the
+    /// transitions that lead to these states. For branching bisimilarity, it then goes back along inert transitions.
+    /// Each lookup is a visit (a counted read of a transition).
+    pub fn find_active<M: Meter>(
+        mut self,
+        predecessors: Predecessors,
+        relation: Relation,
+        l: &Lts<M>,
+        m: &mut M,
+    ) -> Result<SignedBlocks, Memory>
+        requires index { HasIndex relation l.now self.blocks.block_ids predecessors }
         requires none { self.visited ≡ [] }
         requires room { HasRoomFor (M.counted m.old) 0 (length l.now.places) }
 
         // On success
-        ensures found { IfOk result (SearchesIfPending l.now self) }
+        ensures found { IfOk result (HasSearched relation l.now self) }
         ensures visited { IfOk result
             (λ r. HasVisited l.now.places (M.counted m.old) (M.counted m.new) r.visited) }
 
         // Always
         ensures cost { Costs (M.counted m.old) (M.counted m.new) 0 0 (length l.now.places) }
     {
-        let index_state = self.index_state;
-        let IndexState::Pending(predecessors) = index_state else {
-            self.index_state = index_state;
-            return Ok(self);
-        };
-        let (predecessors, active) = predecessors.search_back(
-            self.alloc,
+        let search = Search {
+            alloc: self.alloc,
             l,
-            &self.blocks,
-            &mut self.visited,
-            m,
-        )?;
+            blocks: &self.blocks,
+            relation,
+        };
+        let (predecessors, active) = predecessors.search_back(&search, &mut self.visited, m)?;
         self.signatures.invariants();
         forget(&mut self.signature_ids, self.blocks.active());
         let blocks = self.blocks.with_active(active);
         Ok(SignedBlocks {
             blocks,
-            index_state: IndexState::Searched(predecessors),
+            index: Some(predecessors),
             ..self
         })
     }
 
-    /// Splits the blocks. Two states of a block stay together if and only if `signature_ids` has the same ID for both
-    /// states. If there is a predecessor index, the next round usually begins with a search in this index for the
-    /// states that it processes. So this search is pending after the split. There is one exception: if more than
-    /// `most_signatures` signatures are stored, the function discards all signatures, and the next round processes all
-    /// states that can be split (`activate_all`).
-    pub fn split<M: Meter>(self, l: &Lts<M>) -> Result<SignedBlocks, Memory>
-        requires { length self.blocks.block_ids ≡ l.now.states }
-        ensures { IfOk result (IsSplitOf l.now self) }
+    /// Discards all signatures, and activates all states that can be split: the states that have a transition and are
+    /// not in a singleton block (`splittable_states`).
+    pub(crate) fn activate_all<M: Meter>(self, l: &Lts<M>) -> Result<SignedBlocks, Memory>
+        requires states { length self.blocks.block_ids ≡ l.now.states }
+        ensures { IfOk result (Restarts l.now self) }
     {
-        self.signatures.invariants();
+        let round = self.discard_signatures()?;
+        let active = splittable_states(round.alloc, &round.blocks, l)?;
+        let most_signatures = most_signatures(&active);
+        let blocks = round.blocks.with_active(active);
+        Ok(SignedBlocks {
+            blocks,
+            most_signatures,
+            ..round
+        })
+    }
+
+    /// Splits the blocks. Two states of a block stay together if and only if `signature_ids` has the same ID for both
+    /// states.
+    pub fn split(self) -> Result<SignedBlocks, Memory>
+        ensures same { IfOk result (λ q. q ≡ record self { blocks = q.blocks }) }
+        ensures split { IfOk result
+            (λ q. AreSplitBlocks self.blocks self.signature_ids q.blocks) }
+    {
         let stored = self.signatures.len();
         let blocks = self.blocks.split(self.alloc, stored, &self.signature_ids)?;
-        let index_state = self.index_state;
-        let mut round = SignedBlocks {
-            blocks,
-            index_state: IndexState::Absent,
-            ..self
-        };
-        match index_state {
-            IndexState::Absent => Ok(round),
-            IndexState::Searched(predecessors) | IndexState::Pending(predecessors) => {
-                if stored > round.most_signatures {
-                    return activate_all(round, predecessors, l);
-                }
-                round.index_state = IndexState::Pending(predecessors);
-                Ok(round)
-            }
-        }
+        Ok(SignedBlocks { blocks, ..self })
     }
-}
-
-/// Discards all signatures. The next round then processes all states that have a transition and are not in a singleton
-/// block (`splittable_states`).
-fn activate_all<M: Meter>(
-    round: SignedBlocks,
-    predecessors: Predecessors,
-    l: &Lts<M>,
-) -> Result<SignedBlocks, Memory>
-    requires fits { length predecessors.index.all ≡ length round.blocks.block_ids }
-    requires states { length round.blocks.block_ids ≡ l.now.states }
-    ensures blocks { IfOk result
-        (λ r. r.blocks ≡ record round.blocks { active = r.blocks.active }) }
-    ensures activates { IfOk result (ActivatesAll l.now predecessors) }
-{
-    let round = round.discard_signatures()?;
-    let active = splittable_states(round.alloc, &round.blocks, l)?;
-    let most_signatures = most_signatures(&active);
-    let blocks = round.blocks.with_active(active);
-    Ok(SignedBlocks {
-        blocks,
-        index_state: IndexState::Searched(predecessors),
-        most_signatures,
-        ..round
-    })
 }
 
 /// Returns the value of `most_signatures`: if more signatures than this number are stored, all signatures are
@@ -374,8 +336,9 @@ fn most_signatures(active: &[u32]) -> u32
     2 * (active.len() as u32 + 1)
 }
 
-/// Returns the states that have a transition and are not in a singleton block, in ascending order.
-fn splittable_states<M: Meter>(
+/// Returns the states that have a transition and are not in a singleton block, in ascending order. The header of an
+/// `.aut` file can declare many states without an outgoing transition, and rounds need not process these states.
+pub(crate) fn splittable_states<M: Meter>(
     alloc: Global,
     blocks: &Blocks,
     l: &Lts<M>,
@@ -384,13 +347,13 @@ fn splittable_states<M: Meter>(
     ensures ascending { IfOk result (λ v. AreActive l.now.states v.items) }
     ensures others { IfOk result (λ v. AreAllActive l.now blocks.now.block_ids v.items) }
 {
-    let mut active = Vec::new(alloc);
+    let mut active = Vec::with_capacity(alloc, l.states() as usize)?;
     for s in 0..l.states() {
-        if blocks.is_singleton(s) {
-            continue;
-        }
         let (start, end) = l.row(s);
         if start == end {
+            continue;
+        }
+        if blocks.is_singleton(s) {
             continue;
         }
         active.push(s)?;

@@ -1,5 +1,4 @@
-use Rattle.std.proofs.Common.{◌≡◌, suc, ◌+◌, ◌*◌, ◌≤◌, [], ◌∷◌, length, slice_index, None, ap, sym, ◌∙◌, inr, arith}
-use Rattle.std.proofs.Math.Logic.{⊎_map}
+use Rattle.std.proofs.Common.{◌≡◌, suc, ◌+◌, ◌*◌, ◌≤◌, [], ◌∷◌, length, slice_index, None, ap, sym, ◌∙◌, arith}
 use Rattle.std.proofs.lemmas.Nat.{mul-le}
 use Rattle.std.proofs.Math.Nat.{suc-mul, add-mul}
 use Rattle.theory.specs.Blocks.{Turns}
@@ -10,7 +9,7 @@ use Rattle.refine_core.proofs.Spending.{on_err_from}
 use Rattle.partition.specs.Blocks.{RoundBlocks}
 use Rattle.partition.specs.Renumberings.{WereHalved}
 use Rattle.partition.proofs.CallerLemmas.{one_block, halved}
-use Rattle.refine_core.proofs.IndexStates.{awaits_after_drop, awaits_unindexed}
+use Rattle.refine_core.proofs.IndexStates.{awaits_after_drop}
 use Rattle.refine_core.proofs.refinement.refine_blocks.Goals as goal
 use Rattle.refine_core.proofs.refinement.refine_blocks.Given.{Over}
 use Rattle.refine_core.proofs.refinement.refine_blocks.Goals.{After-count-more}
@@ -21,20 +20,25 @@ loop-before-init g c =
     let l = c.args.l.now in
     let ids = c.in_ok-blocks.blocks.block_ids in
     let blocks = c.in_ok-blocks.ensures in
-    let is = c.in_ok-round.ensures.blocks in
+    let is = c.in_ok-round.ensures.blocks ∙ c.with_active-blocks.ensures.same in
     let one = one_block l.states ids c.states.result (sym c.states.ensures.value) blocks.one in
     let on = c.refinement_goes_on.ensures.begun rel (system_of l) (slice_index ids) c.states.ensures.lts.system one in
     record {
-      awaits = awaits_unindexed rel l c.in_ok-round.round None (rw is (blocks.states ∙ c.states.ensures.value))
-          (ap (λ b. b.first_new) is ∙ blocks.count.1) c.in_ok-round.ensures.absent
-          (λ s h. ⊎_map (λ one. rw (is, blocks.active) one) inr (c.in_ok-active.ensures.rows s h));
+      awaits = record {
+        states = rw is (blocks.states ∙ c.states.ensures.value);
+        old = None;
+        follows = λ _. ap (λ b. b.first_new) is ∙ blocks.count.1;
+        all = λ _. rw is c.in_ok-active.ensures.others;
+        index = rw c.in_ok-round.ensures.absent tt;
+        later = λ some. absurd (some c.in_ok-round.ensures.absent);
+      };
       made = rw is
           (record { rounds = 0; fewer = omega arith; past = []; were = (one, tt); underway = on; costs = omega arith });
     }
 
 pub next_round-requires-clause-ready_for_round : goal.next_round-requires-clause-ready_for_round
 next_round-requires-clause-ready_for_round g c =
-    awaits_after_drop _ _ _ _ c.in_ok-before.ensures c.loop-before.invariant.awaits
+    awaits_after_drop _ _ _ _ c.in_ok-before.ensures.same c.in_ok-before.ensures.leaves c.loop-before.invariant.awaits
 
 pub next_round-requires-clause-room : goal.next_round-requires-clause-room
 next_round-requires-clause-room g c =
@@ -58,14 +62,13 @@ module _ (g : Over) (c : After-count-more g) where
   old = c.loop-before.round.blocks
 
   next : IsNextRound g.S.Signing.relation c.args.l.now old.block_ids old.count c.in_ok-next.next
-  next = rw c.in_ok-before.ensures.blocks at c.in_ok-next.ensures.next
+  next = rw c.in_ok-before.ensures.same at c.in_ok-next.ensures.next
 
   were : let of = c.in_ok-next.next.blocks.block_ids in let past = old.block_ids ∷ c.loop-before.invariant.made.past in
       AreRounds g.S.Signing.relation (system_of c.args.l.now) of past × WereHalved of past
   were = let made = c.loop-before.invariant.made in
-      let size = sym c.loop-before.invariant.awaits.states in
-      let half = halved old.block_ids c.in_ok-next.next.blocks.block_ids old.count (next.awaits.states ∙ size)
-      (λ s h. next.stays s (omega (arith, h, size))) next.halves in
+      let parts = next.parts.1 in
+      let half = halved old.block_ids c.in_ok-next.next.blocks.block_ids old.count parts.states parts.stays next.halves in
       ((next.split, made.were.0), (half, made.were.1))
 
   costs : let k = suc c.loop-before.invariant.made.rounds in let n = length c.args.l.now.places in
@@ -79,7 +82,7 @@ module _ (g : Over) (c : After-count-more g) where
       Turns g.S.Signing.relation (system_of c.args.l.now) (suc c.loop-before.invariant.made.rounds)
   turns e = c.refinement_goes_on.ensures.done _ (system_of c.args.l.now) _ (slice_index old.block_ids) _
       c.states.ensures.lts.system c.loop-before.invariant.made.underway next.split
-      (next.same.0 (omega (arith, e, ap (λ b. b.count) c.in_ok-before.ensures.blocks)))
+      (next.same.0 (omega (arith, e, ap (λ r. r.blocks.count) c.in_ok-before.ensures.same)))
 
 pub returns-then-more-count-clause-bisimilar : goal.returns-then-more-count-clause-bisimilar
 returns-then-more-count-clause-bisimilar g c =
@@ -115,7 +118,7 @@ loop-before-preserved g c =
     let d = (goal.at.loop-before-preserved g c).After-count-more in
     let made = c.loop-before.invariant.made in
     let next = next g d in
-    let counts = ap (λ b. b.count) c.in_ok-before.ensures.blocks in
+    let counts = ap (λ r. r.blocks.count) c.in_ok-before.ensures.same in
     let rel = g.S.Signing.relation in
     let A = system_of c.args.l.now in
     let system = c.states.ensures.lts.system in

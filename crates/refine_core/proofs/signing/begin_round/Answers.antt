@@ -1,32 +1,53 @@
-use Rattle.std.proofs.Common.{◌≡◌, ◌∙◌, sym, ap, subst}
+use Rattle.std.proofs.Common.{◌∙◌, length, sym, ap, subst, None, IfOk}
 use Rattle.std.proofs.lemmas.Result.{IfOk-weaker}
-use Rattle.refine_core.specs.Index.{IsSearchIndex}
-use Rattle.refine_core.specs.declared.signed_blocks.IndexState.TheVariants.{Absent}
-use Rattle.refine_core.proofs.IndexStates.{awaits_cleared, searched}
+use Rattle.refine_core.specs.IndexState.{HasSearched}
+use Rattle.refine_core.proofs.IndexStates.{begun_unindexed, none_visited, restarted, searched}
 use Rattle.refine_core.proofs.signing.begin_round.Goals as goal
 
-pub find_active-requires-clause-pending : goal.find_active-requires-clause-pending
-find_active-requires-clause-pending g c e pending =
-    subst (λ r. IsSearchIndex c.args.l.now r.blocks.block_ids e) (sym c.clear_visited-round.ensures)
-    (rw (ap (λ r. r.index_state) (sym c.clear_visited-round.ensures) ∙ pending) at
-    c.requires.ready_for_round.index).index
+pub returns-then-len-round-clause-begun : goal.returns-then-len-round-clause-begun
+returns-then-len-round-clause-begun g c = let l = c.args.l.now in IfOk-weaker c.activate_all.result _ _
+    (λ r again. restarted g.S.Signing.relation l (c.rows_are_steps.ensures.steps l) c.args.round r
+    c.requires.ready_for_round again) (rw c.clear_visited-round.ensures at c.activate_all.ensures)
 
-pub begin-requires-clause-ready_for_round : goal.begin-requires-clause-ready_for_round
-begin-requires-clause-ready_for_round g c = rw c.clear_visited-round.ensures
-    (awaits_cleared g.S.Signing.relation c.args.l.now c.args.round c.requires.ready_for_round)
+pub returns-then-len-round-clause-visited : goal.returns-then-len-round-clause-visited
+returns-then-len-round-clause-visited g c = IfOk-weaker c.activate_all.result _ _
+    (λ r again. none_visited _ _ _ (again.visited ∙ ap (λ r. r.visited) c.clear_visited-round.ensures))
+    c.activate_all.ensures
 
--- Suppose that there is a predecessor index, and that the call of `find_active`, which makes a pending search of this
--- index, has succeeded. Then the round is ready for computing signatures (`IsBegun`).
+pub begin_index-requires-clause-states : goal.begin_index-requires-clause-states
+begin_index-requires-clause-states g c = let is = c.round.view_is ∙ c.clear_visited-round.ensures in
+    ap (λ b. length b.block_ids) (c.in_ok-round.ensures.same.0 ∙ ap (λ r. r.blocks) is)
+    ∙ c.requires.ready_for_round.states
+
+pub begin_index-requires-clause-none : goal.begin_index-requires-clause-none
+begin_index-requires-clause-none g c =
+    c.in_ok-round.ensures.same.2 ∙ ap (λ r. r.visited) (c.round.view_is ∙ c.clear_visited-round.ensures)
+
+-- Suppose that there was no predecessor index, and that the call of `begin_index`, which may build the index, has
+-- succeeded. Then the round is ready for computing signatures (`IsBegun`).
 pub returns-in_default-clause-begun : goal.returns-in_default-clause-begun
-returns-in_default-clause-begun g c =
-    let l = c.args.l.now in
-    let o = c.args.round in
-    let some : ¬ (o.index_state ≡ Absent) = λ absent.
-    c.in_default.not-Absent (ap (λ r. r.index_state) (c.round.view_is ∙ c.clear_visited-round.ensures) ∙ absent) in
-    IfOk-weaker c.find_active.result _ _
-    (λ r by. searched l c.invariants.ensures (c.rows_are_steps.ensures.steps l) o r some
-    g.S.Signing.relation by c.requires.ready_for_round)
-    (rw c.clear_visited-round.ensures at c.find_active.ensures.found)
+returns-in_default-clause-begun g c = let l = c.args.l.now in
+    let is = c.round.view_is ∙ c.clear_visited-round.ensures in
+    let none = ap (λ r. r.index) (sym is) ∙ sym c.take.ensures.value ∙ c.in_default.is in
+    let begun = begun_unindexed g.S.Signing.relation l (c.rows_are_steps.ensures.steps l) c.args.round
+    c.in_ok-round.round in
+    IfOk-weaker c.begin_index.result _ _
+    (λ r by. begun r none c.requires.ready_for_round (c.in_ok-round.ensures.same.0 ∙ ap (λ r. r.blocks) is)
+    c.in_ok-round.ensures.discarded by) (rw c.which-relation.ensures at c.begin_index.ensures.begins)
 
+pub find_active-requires-clause-index : goal.find_active-requires-clause-index
+find_active-requires-clause-index g c =
+    let is = c.round.view_is ∙ c.clear_visited-round.ensures in
+    let some = ap (λ r. r.index) (sym is) ∙ sym c.take.ensures.value ∙ c.in-Some.is in
+    rw (c.which-relation.ensures, ap (λ r. r.blocks.block_ids) is) (rw some at c.requires.ready_for_round.index)
+
+-- Suppose that the call of `find_active`, which searches the predecessor index, has succeeded. Then the round is ready
+-- for computing signatures (`IsBegun`).
 pub returns-clause-begun : goal.returns-clause-begun
-returns-clause-begun g c = rw c.clear_visited-round.ensures at c.begin.ensures.begun
+returns-clause-begun g c = let rel = g.S.Signing.relation in let l = c.args.l.now in
+    let is = c.round.view_is ∙ c.clear_visited-round.ensures in
+    let some = ap (λ r. r.index) (sym is) ∙ sym c.take.ensures.value ∙ c.in-Some.is in
+    IfOk-weaker c.find_active.result _ _
+    (λ r by. searched rel l c.invariants.ensures c.args.round r _ some c.requires.ready_for_round by)
+    (subst (λ r. IfOk c.find_active.result (HasSearched rel l (record r { index = None }))) is
+    (rw (c.take.ensures.after, c.which-relation.ensures) at c.find_active.ensures.found))

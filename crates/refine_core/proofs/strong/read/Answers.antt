@@ -1,6 +1,6 @@
-use Rattle.std.proofs.Common.{◌∙◌, ℕ, ◌+◌, ◌-◌, ◌<◌, ap, refl, arith, rules}
+use Rattle.std.proofs.Common.{◌≡◌, ◌∙◌, ℕ, ◌+◌, ◌-◌, ◌*◌, ◌/◌, ◌%◌, ◌<◌, ap, refl, arith, rules}
 use Rattle.std.proofs.lemmas.List.{take_all}
-use Rattle.refine_core.proofs.ActiveStates.{by_two, pairs_none, pairs_more}
+use Rattle.refine_core.proofs.ActiveStates.{pairs_none, pairs_more}
 use Rattle.refine_core.proofs.strong.read.Goals as goal
 use Rattle.refine_core.proofs.strong.read.Goals.{then-end-start-eq1, else-end-start-eq1}
 
@@ -11,7 +11,8 @@ loop-k-init g c =
     let (start, end) = c.row-start.result in
     let none = c.in_ok-reserve.ensures.items ∙ c.clear.ensures.items ∙ pairs_none of places c.args.s start in
     let k = c.if-end-start-eq1.k in
-    let twos = by_two start end k _ c.row-start.ensures.count in
+    let twos : k ≡ start + (end - start) % 2 → (n : ℕ) × (end ≡ k + n * 2)
+    = λ is. ((end - start) / 2, omega (arith, is, c.row-start.ensures.count)) in
     elim c.if-end-start-eq1.branch [
       | then-end-start-eq1 w ↦
           let row = c.rows_follow.ensures.inside places _ start end start c.row-start.ensures (omega arith)

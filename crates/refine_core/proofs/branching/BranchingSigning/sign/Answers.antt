@@ -1,4 +1,4 @@
-use Rattle.std.proofs.Common.{rules, refl, ◌∙◌, length, slice_index, ap, sym, subst, arith}
+use Rattle.std.proofs.Common.{rules, ◌∙◌, length, ap, sym, subst, arith}
 use Rattle.std.proofs.lemmas.List.{take_at}
 use Rattle.theory.specs.declared.relation.Relation.TheVariants.{Branching}
 use Rattle.inert.specs.Signed.{SignsActive}
@@ -14,16 +14,14 @@ sign_each-requires-clause-cached g c =
     (subst (IsReadyToSign Branching c.args.l.now _) (sym c.round.view_is) c.requires.ready.1)
 
 pub sign_each-requires-clause-signature_ids : goal.sign_each-requires-clause-signature_ids
-sign_each-requires-clause-signature_ids g c = search (rules, c.deref_mut.ensures.value, c.round.invariant.0.none)
+sign_each-requires-clause-signature_ids g c = search (rules, c.deref_mut.ensures.value, c.round.invariant.none)
 
 pub invariant_of-round : goal.invariant_of-round
 invariant_of-round g c =
-    let old = c.round.inside.blocks in (
-      written_back old.block_ids old.active c.sign_each.new.signatures c.sign_each.new.signature_ids _ _
-          c.in_ok-sign_each.ensures.signs.ids
-          c.sign_each.ensures.others (omega (arith, c.round.invariant.0.states)) (omega arith),
-      c.round.invariant.1,
-    )
+    let old = c.round.inside.blocks in
+    written_back old.block_ids old.active c.sign_each.new.signatures c.sign_each.new.signature_ids _ _
+    c.in_ok-sign_each.ensures.signs.ids c.sign_each.ensures.others (omega (arith, c.round.invariant.states))
+    (omega arith)
 
 pub returns-clause-signed : goal.returns-clause-signed
 returns-clause-signed g c old ready =

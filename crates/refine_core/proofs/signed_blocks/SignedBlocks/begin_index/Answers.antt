@@ -1,31 +1,32 @@
-use Rattle.std.proofs.Common.{rules, ◌∙◌, length, ap, sym, inr, arith}
+use Rattle.std.proofs.Common.{rules, ◌∙◌, length, ap, arith}
 use Rattle.refine_core.proofs.Signatures.{emptied}
 use Rattle.refine_core.proofs.IndexStates.{none_visited}
 use Rattle.refine_core.proofs.signed_blocks.SignedBlocks.begin_index.Goals as goal
 
 pub forget-requires-clause-none : goal.forget-requires-clause-none
-forget-requires-clause-none g c = rw (c.active.ensures.active) c.self.invariant.0.none
+forget-requires-clause-none g c = rw (c.active.ensures.active) c.self.invariant.none
 
 pub invariant_of-result : goal.invariant_of-result
 invariant_of-result g c =
-    rw (c.in_ok-blocks.ensures) (
-      emptied (omega (arith, ap length c.in_ok-self-inside.ensures)) c.forget.ensures.empty c.forget.ensures.states
-          c.self.invariant.0.states,
-      (c.in_ok-predecessors.ensures.index _ c.requires.states).index.entries.ranges.size ∙ sym c.requires.states
-          ∙ ap (λ r. length r.blocks.block_ids) (sym (c.self.view_is ∙ c.needs_index.ensures)),
-    )
+    rw (c.in_ok-blocks.ensures) (emptied (omega (arith, ap length c.in_ok-self-inside.ensures)) c.forget.ensures.empty
+    c.forget.ensures.states c.self.invariant.states)
+
+pub returns-then-not-needs_index-clause-begins : goal.returns-then-not-needs_index-clause-begins
+returns-then-not-needs_index-clause-begins g c = let same = c.needs_index.ensures in record {
+  blocks = ap (λ r. r.blocks) same;
+  cached = ap (λ r. r.cached) same;
+  only = λ only. ap (λ r. r.signatures) same ∙ only;
+  index = rw (ap (λ r. r.index) same ∙ c.requires.absent) tt;
+}
 
 pub returns-then-not-needs_index-clause-visited : goal.returns-then-not-needs_index-clause-visited
 returns-then-not-needs_index-clause-visited g c =
     none_visited _ _ _ (ap (λ r. r.visited) c.needs_index.ensures ∙ c.requires.none)
 
 pub returns-clause-begins : goal.returns-clause-begins
-returns-clause-begins g c = inr (record {
-  absent = c.requires.absent;
+returns-clause-begins g c = record {
   blocks = search rules;
   cached = search rules;
-  signatures = search rules;
-  search_index = c.in_ok-predecessors.predecessors;
-  index_state = search rules;
+  only = λ _. search rules;
   index = c.in_ok-predecessors.ensures.index _ (search rules);
-})
+}

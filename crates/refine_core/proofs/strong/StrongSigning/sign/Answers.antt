@@ -8,14 +8,12 @@ pub sign_active-requires-clause-signature_ids : goal.sign_active-requires-clause
 sign_active-requires-clause-signature_ids g c = record {
   size = search rules;
   ascending = search rules;
-  none = rw (c.active.ensures.active) c.round.invariant.0.none;
+  none = rw (c.active.ensures.active) c.round.invariant.none;
 }
 
 pub invariant_of-round : goal.invariant_of-round
-invariant_of-round g c = (
-  rw (c.block_ids.ensures.block_ids, c.active.ensures.active) at c.in_ok-sign_active.ensures.signature_ids,
-  c.round.invariant.1,
-)
+invariant_of-round g c =
+    rw (c.block_ids.ensures.block_ids, c.active.ensures.active) at c.in_ok-sign_active.ensures.signature_ids
 
 pub returns-clause-signed : goal.returns-clause-signed
 returns-clause-signed g c old ready =

@@ -1,0 +1,14 @@
+use Rattle.std.proofs.Common.{rules, ◌∙◌, length, ap, refl, sym, arith}
+use Rattle.refine_core.proofs.Signatures.{emptied}
+use Rattle.refine_core.proofs.signed_blocks.SignedBlocks.activate_all.Goals as goal
+
+pub invariant_of-result : goal.invariant_of-result
+invariant_of-result g c =
+    let have = c.round.invariant in
+    let one = ap length (ap (λ r. r.signatures) c.round.view_is ∙ c.in_ok-round.ensures.discarded.only) in
+    rw c.with_active-blocks.ensures.same
+    (emptied (omega (arith, one)) (λ s h. omega (arith, one, have.each s 0 h)) refl have.states)
+
+pub returns : goal.returns
+returns g c = let discarded = rw (sym c.round.view_is) at c.in_ok-round.ensures.discarded in
+    rw c.with_active-blocks.ensures.same (search (rules, discarded))
