@@ -5,7 +5,8 @@ use Rattle.quotient_core.proofs.Visits.{visits_at_most, room_after}
 use Rattle.quotient_core.proofs.triples.read_class.Goals as goal
 
 pub is_reached-requires : goal.is_reached-requires
-is_reached-requires g c = next_below c.loop-k.invariant c.last_first.ensures.below c.last_first.ensures.turn
+is_reached-requires g c = rw (c.requires.numbered.reached_long)
+    (next_below c.loop-k.invariant c.last_first.ensures.below c.last_first.ensures.turn)
 
 pub read_row-requires-clause-state : goal.read_row-requires-clause-state
 read_row-requires-clause-state g c = next_below c.loop-k.invariant c.last_first.ensures.below c.last_first.ensures.turn
