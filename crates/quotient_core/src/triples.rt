@@ -16,6 +16,7 @@ use std::alloc::Global;
 /// quotient leaves out inert transitions, which are internal transitions between bisimilar states. The caller must
 /// ensure `ShowEachOther`: a state of which no transition is left out has all quotient transitions of each other state
 /// that the same quotient state represents.
+#[tactic(auto, using(crate::proofs::Showing::class_by_class))]
 pub(crate) fn shown_transitions<M: Meter>(
     alloc: Global,
     l: &Lts<M>,
@@ -57,6 +58,7 @@ fn add_class(shown: &mut Transitions, class: &[(u32, u32, u32)], most: u32) -> R
 /// this class, state by state. The quotient leaves out inert transitions. As soon as the function has read a state of
 /// which no transition is left out, it reads no further states. The caller must ensure that such a state has all
 /// quotient transitions of the class (`ShowEachOther`).
+#[tactic(auto, using(crate::proofs::Showing::next_below))]
 fn read_class<M: Meter>(
     l: &Lts<M>,
     numbering: &Numbering,

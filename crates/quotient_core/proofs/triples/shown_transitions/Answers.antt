@@ -2,22 +2,10 @@ use Rattle.std.proofs.lemmas.Bool.Decides.{nat_tests}
 use Rattle.std.proofs.Common.{subst, ℕ, rules, ◌≡◌, ◌∙◌, ◌≤◌, ◌++◌, length, ap, arith}
 use Rattle.quotient_core.specs.Triples.{HasShown, is_member, is_reached}
 use Rattle.quotient_core.proofs.Showing.{is_below, below_next, shown_with, shown_tidy, tidied_once, once_next, rows_fit}
-use Rattle.quotient_core.proofs.Visits.{visits_then, visits_at_most, room_after, rows_part, rows_few}
+use Rattle.quotient_core.proofs.Visits.{visits_then, rows_part}
 use Rattle.quotient_core.proofs.triples.shown_transitions.Given.{Over}
 use Rattle.quotient_core.proofs.triples.shown_transitions.Goals as goal
 use Rattle.quotient_core.proofs.triples.shown_transitions.Goals.{After-edges}
-
-pub read_class-requires-clause-room : goal.read_class-requires-clause-room
-read_class-requires-clause-room g c =
-    room_after c.requires.room c.loop-number.invariant.visits (rows_fit c.args.l.now c.args.numbering.now c.loop-number.number)
-
-pub returns-in_err-read_class-clause-visits : goal.returns-in_err-read_class-clause-visits
-returns-in_err-read_class-clause-visits g c = visits_then c.loop-number.invariant.visits c.read_class.ensures.visits
-    (rows_fit c.args.l.now c.args.numbering.now c.loop-number.number)
-
-pub returns-in_err-add_class-clause-visits : goal.returns-in_err-add_class-clause-visits
-returns-in_err-add_class-clause-visits g c = visits_then c.loop-number.invariant.visits c.read_class.ensures.visits
-    (rows_fit c.args.l.now c.args.numbering.now c.loop-number.number)
 
 -- A quotient transition is a transition between quotient states. The list of the quotient transitions of a class is
 -- sorted, and its repeated elements are removed. Afterwards the list still has exactly the quotient transitions of the
@@ -55,7 +43,3 @@ returns-clause-shown g c = let n = c.args.numbering.now in
     let all : (s : ℕ) → is_below n c.loop-number.number s ≡ is_reached n s =
     λ s. grind (arith, nat_tests, end, c.requires.numbered.below s) in
     subst (λ p. HasShown c.args.l.now n p c.loop-number.shown) (λ i s. all s i) c.loop-number.invariant.shown
-
-pub returns-clause-visits : goal.returns-clause-visits
-returns-clause-visits g c = visits_at_most c.loop-number.invariant.visits
-    (rows_few (is_below c.args.numbering.now c.loop-number.number) c.args.l.now.places)
