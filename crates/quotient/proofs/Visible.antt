@@ -1,10 +1,9 @@
 -- If a system has no internal transitions, then strong and branching bisimilarity relate the same states of this
 -- system, and refinement takes the same number of rounds for both relations.
-use Rattle.std.proofs.Common.{rules, ◌≡◌, ◌∙◌, ◌⊎◌, ℕ, ◌*◌, ◌≤◌, List, [], ◌∷◌, length, Contains, refl, sym, subst}
-use Rattle.std.proofs.Common.{inl, inr}
+use Rattle.std.proofs.Common.{rules, ◌≡◌, ◌∙◌, ℕ, ◌*◌, ◌≤◌, List, [], ◌∷◌, length, Contains, refl, sym, subst}
 use Rattle.std.proofs.lemmas.List.{get_or_default}
 use Rattle.theory.specs.System.{System, Step, Internal, Along, internal}
-use Rattle.theory.specs.Bisimulation.{Pairs, Bisimilar}
+use Rattle.theory.specs.Bisimulation.{Pairs}
 use Rattle.theory.specs.declared.relation.Relation.{Relation}
 use Rattle.theory.specs.declared.relation.Relation.TheVariants.{Strong, Branching}
 use Rattle.theory.specs.Blocks.{Inert, Signature, Turns}
@@ -30,37 +29,23 @@ module _ (A : System) (none : (s t : ℕ) → ¬ Internal A s t) where
   alike : (one two : Relation) → SameSignatures one two A A
   alike one two = search (rules, shown)
 
-  bisimilar : (one two : Relation) (s t : ℕ) → Bisimilar one A s A t → Bisimilar two A s A t
-  bisimilar Strong Strong s t h = h
-  bisimilar Strong Branching s t h = (h.0, strong_is_branching A A (Pairs h.0) h.1, h.2)
-  bisimilar Branching Strong s t h = (h.0, branching_is_strong A A (Pairs h.0) none none h.1, h.2)
-  bisimilar Branching Branching s t h = h
-
--- Suppose that refinement computes the signatures of states for the relation `by`. Suppose also that `by` is the
--- relation `rel`, or that the system has no internal label. Then the last blocks of refinement are the classes of
--- states that are bisimilar for `rel`, and refinement for `rel` takes the same number of rounds.
-module _ {l : Grouped} {by rel : Relation} {labels : List (List ℕ)}
-    (numbered : (l : Grouped) (s : ℕ) (a : List ℕ) (t : ℕ) → IsLts l → Step (system_of l) s a t →
-    (k : ℕ) × IsLabelId l.labels k a) (lts : IsLts l) (read : labels ≡ l.labels)
-    (may : (by ≡ rel) ⊎ (¬ Contains labels internal)) where
-  none : ¬ Contains labels internal → (s t : ℕ) → ¬ Internal (system_of l) s t
-  none absent s t step = let (k, number) = numbered l s internal t lts step in
+-- Suppose that the system has no internal label, and that refinement computes strong signatures. Then the last blocks
+-- of refinement are the classes of states that are branching bisimilar, and refinement for branching bisimilarity takes
+-- the same number of rounds.
+module _ {l : Grouped} {labels : List (List ℕ)} (numbered : (l : Grouped) (s : ℕ) (a : List ℕ) (t : ℕ) → IsLts l →
+    Step (system_of l) s a t → (k : ℕ) × IsLabelId l.labels k a) (lts : IsLts l) (read : labels ≡ l.labels)
+    (absent : ¬ Contains labels internal) where
+  none : (s t : ℕ) → ¬ Internal (system_of l) s t
+  none s t step = let (k, number) = numbered l s internal t lts step in
       absent (rw read (k, number.below, sym (get_or_default l.labels k [] internal number.below) ∙ number.text))
 
-  pub classes_by : (blocks : List ℕ) → AreClasses by l blocks → AreClasses rel l blocks
-  classes_by blocks h s t ls lt = elim may [
-    | inl e ↦ subst (λ r. AreClasses r l blocks) e h s t ls lt
-    | inr absent ↦ (
-      λ e. bisimilar (system_of l) (none absent) by rel s t ((h s t ls lt).0 e),
-      λ x. (h s t ls lt).1 (bisimilar (system_of l) (none absent) rel by s t x),
-    )
-  ]
+  pub branching_classes : (blocks : List ℕ) → AreClasses Strong l blocks → AreClasses Branching l blocks
+  branching_classes blocks h s t ls lt = let A = system_of l in (
+    λ e. let x = (h s t ls lt).0 e in (x.0, strong_is_branching A A (Pairs x.0) x.1, x.2),
+    λ x. (h s t ls lt).1 (x.0, branching_is_strong A A (Pairs x.0) none none x.1, x.2),
+  )
 
-  pub turns_by : {old new : Counts} → (r : ℕ) × (r ≤ l.states) × Turns by (system_of l) r
+  pub branching_turns : {old new : Counts} → (r : ℕ) × (r ≤ l.states) × Turns Strong (system_of l) r
       × Costs old new r (r * length l.places) (r * length l.places) → (r : ℕ) × (r ≤ l.states)
-      × Turns rel (system_of l) r × Costs old new r (r * length l.places) (r * length l.places)
-  turns_by (r, low, turns, costs) = elim may [
-    | inl e ↦ (r, low, subst (λ rel. Turns rel (system_of l) r) e turns, costs)
-    | inr absent ↦
-        let none = none absent in (r, low, search (rules, same_signatures_turns, alike, none), costs)
-  ]
+      × Turns Branching (system_of l) r × Costs old new r (r * length l.places) (r * length l.places)
+  branching_turns (r, low, turns, costs) = (r, low, search (rules, same_signatures_turns, alike, none), costs)

@@ -17,11 +17,11 @@ IfOk-both (Err e) P Q p q = tt
 -- A visit is a counted read of a transition. Suppose that a minimisation makes the rounds of one refinement, and then
 -- two passes over all transitions. Then the numbers of rounds and visits are within the bounds for a minimisation
 -- (`StaysWithin`).
-pub minimised_keeps : {T E : Type 0} (states k r : ℕ) (old one two at : Counts) (result : Result T E) → IsFresh old →
-    r ≤ states → Costs old one r (r * k) (r * k) → Costs one two 0 0 k → Costs two at 0 0 k →
+pub minimised_keeps : {T E : Type 0} {old one at : Counts} (states k r : ℕ) (result : Result T E) → IsFresh old →
+    r ≤ states → Costs old one r (r * k) (r * k) → Costs one at 0 0 (quotient_passes * k) →
     StaysWithin states k quotient_passes at (on_ok result (at.rounds * k))
-minimised_keeps states k r old one two at (Ok x) fresh low turns reach build = search rules
-minimised_keeps states k r old one two at (Err e) fresh low turns reach build = search rules
+minimised_keeps states k r (Ok x) fresh low turns build = search rules
+minimised_keeps states k r (Err e) fresh low turns build = search rules
 
 -- A comparison first builds the union of two systems, and then refines the partition of the union. This module proves
 -- bounds on the number of visits (counted reads of transitions) of both steps together.

@@ -11,7 +11,7 @@ ghost use Rattle.quotient.specs.Visits.{StaysWithin, quotient_passes};
 
 use crate::{Relation, relation};
 use lts::{Counter, Lts, Memory, Meter};
-use quotient_core::{number, quotient_of, reachable};
+use quotient_core::quotient_of;
 use std::alloc::Global;
 
 /// Returns the quotient of a system. The quotient is the smallest system that is equivalent to the given system.
@@ -53,7 +53,5 @@ pub fn minimise<M: Meter>(
     theory::no_smaller_system();
     theory::bisimilarity_is_an_equivalence();
     let blocks = relation::blocks(alloc, l, r, m)?;
-    let reached = reachable(alloc, l, m)?;
-    let numbering = number(alloc, l, blocks, reached)?;
-    quotient_of(alloc, l, r, &numbering, m)
+    quotient_of(alloc, l, r, blocks, m)
 }

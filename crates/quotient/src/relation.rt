@@ -1,14 +1,12 @@
 //! Computes the blocks of bisimilar states by partition refinement. The caller passes the relation (strong or branching
 //! bisimilarity) as an argument.
-ghost use Rattle.std.specs.Prelude.{◌≡◌, ◌⊎◌, ℕ, ◌*◌, ◌≤◌, length, IfOk, OnOk, OnErr};
-ghost use Rattle.std.specs.List.{Contains};
-ghost use Rattle.theory.specs.System.{internal};
+ghost use Rattle.std.specs.Prelude.{◌≡◌, ℕ, ◌*◌, ◌≤◌, length, IfOk, OnOk, OnErr};
 ghost use Rattle.theory.specs.Blocks.{Turns};
 ghost use Rattle.lts.specs.Lts.{system_of};
 ghost use Rattle.lts.specs.Meter.{HasRoomFor, Costs, CostsUpTo};
 ghost use Rattle.quotient_core.specs.Numbers.{AreClasses};
 
-use lts::{Labels, Lts, Memory, Meter};
+use lts::{Lts, Memory, Meter};
 use partition::Blocks;
 use refine_core::{Branching, Strong, refine_blocks};
 use std::alloc::Global;
@@ -37,20 +35,11 @@ pub(crate) fn blocks<M: Meter>(
 {
     lts::rows_are_steps();
     l.invariants();
-    match refined_relation(r, l.labels()) {
-        Relation::Strong => refine_blocks::<Strong, M>(alloc, l, m),
-        Relation::Branching => refine_blocks::<Branching, M>(alloc, l, m),
-    }
-}
-
-/// Returns the relation (strong or branching bisimilarity) for which refinement computes signatures. If the system has
-/// no internal label, both relations have the same classes, and refinement takes the same number of rounds for both. In
-/// this case, refinement uses strong signatures, because they take less time to compute.
-fn refined_relation(r: Relation, labels: &Labels) -> Relation
-    ensures { (result ≡ r) ⊎ (¬ Contains labels.now internal) }
-{
-    match labels.internal() {
-        Some(_) => r,
-        None => Relation::Strong,
+    // If the system has no internal label, both relations have the same classes, and refinement takes the same number
+    // of rounds for both. In this case, refinement uses strong signatures, because they take less time to compute.
+    match (r, l.labels().internal()) {
+        (Relation::Branching, Some(_)) => refine_blocks::<Branching, M>(alloc, l, m),
+        (Relation::Branching, None) => refine_blocks::<Strong, M>(alloc, l, m),
+        (Relation::Strong, _) => refine_blocks::<Strong, M>(alloc, l, m),
     }
 }

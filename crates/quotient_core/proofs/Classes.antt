@@ -2,11 +2,10 @@
 -- reachable state is the number of the quotient state that represents it. The lemmas of this file are about the
 -- invariant of this loop (`Taken`). The invariant holds before the loop. If it holds before a state gets its class
 -- number, it still holds afterwards. After the last state, the invariant implies that all class numbers are correct.
-use Rattle.std.proofs.Common.{◌≡◌, ◌≢◌, ◌∙◌, ◌⊎◌, ◌↔◌, ℕ, ◌+◌, ◌<◌, ◌≤◌, Bool, IsTrue, List, [], ◌∷◌, ◌++◌, length}
+use Rattle.std.proofs.Common.{◌≡◌, ◌≢◌, ◌∙◌, ◌⊎◌, ◌↔◌, ℕ, ◌+◌, ◌<◌, ◌≤◌, Bool, IsTrue, [], ◌∷◌, length}
 use Rattle.std.proofs.Common.{slice_index, replicate, set, refl, sym, ap, subst, inl, inr, arith}
 use Rattle.std.proofs.lemmas.Grind.{common_steps}
 use Rattle.std.proofs.lemmas.Bool.{cases_eq, cases_lt}
-use Rattle.std.proofs.lemmas.Bool.Decides.{nat_tests}
 use Rattle.std.proofs.lemmas.List.{get_or-set_same, get_or-set_other, get_or-replicate, length-set, length-replicate}
 use Rattle.std.proofs.lemmas.List.{length_push}
 use Rattle.theory.specs.System.{System, IsSystem, Reachable}
@@ -18,13 +17,6 @@ use Rattle.quotient_core.specs.Numbers.{TakesState}
 use Rattle.quotient_core.specs.declared.numbering.Numbers.{Numbers}
 use Rattle.quotient_core.specs.declared.numbering.TheConstants.{NONE}
 use Rattle.theory.proofs.CallerLemmas.{is_leader_itself}
-
--- Suppose that x is appended to a list. Then each element of the new list is either the element of the old list at the
--- same index, or x at the last index.
-at_push : (xs : List ℕ) (x t : ℕ) → t < length xs + 1 →
-    ((t < length xs) × (slice_index (xs ++ x ∷ []) t ≡ slice_index xs t))
-    ⊎ ((t ≡ length xs) × (slice_index (xs ++ x ∷ []) t ≡ x))
-at_push xs x t h = grind (arith, common_steps)
 
 module _ {b : ℕ} {reached : Bool} {old new : Numbers} (takes : TakesState b reached old new) where
   -- The table `by_block` has the class number of each block, which is the number of the quotient state that represents
@@ -42,7 +34,7 @@ module _ {b : ℕ} {reached : Bool} {old new : Numbers} (takes : TakesState b re
       × (slice_index new.classes.items i ≡ slice_index old.classes.items i))
       ⊎ (IsTrue reached × (slice_index old.by_block.items b ≡ NONE) × (i ≡ length old.classes.items)
       × (slice_index new.classes.items i ≡ b))
-  class_at i l = grind (arith, takes.classes, at_push old.classes.items b i, length_push old.classes.items b)
+  class_at i l = grind (arith, common_steps, takes.classes)
 
 -- `Other` holds under three conditions. First, the state m is a leader. Second, m is less than s. Third, m is not the
 -- first state of the system. The leader of the class of the first state is the first state. The leader of any other
@@ -172,8 +164,7 @@ module _ (rel : Relation) (A : System) (block : ℕ → ℕ) (laws : Laws rel A 
       seen = λ t l path.
           let own = λ (e : t ≡ s). is_reached.1 (subst (Reachable A) e path) in
           let before = λ (e : t < s). h.seen t e path in
-          let put = at_push old.numbers.items (number_at block new s) t in
-          rw takes.numbers (grind (arith, nat_tests, put, h.numbers_long, before, at t, own, few, low, l));
+          rw takes.numbers (grind (arith, common_steps, h.numbers_long, before, at t, own, few, low, l));
       numbered = λ t l some. elim (at t) [
         | inl (is, _) ↦ let had = h.numbered t l (λ none. some (is ∙ none)) in
             rw is (omega (arith, had.0, (TakesState-room takes).1), had.1)

@@ -4,7 +4,7 @@
 -- quotient transitions of all reachable states are exactly the transitions of the quotient. They also prove
 -- `ShowEachOther`: if no transition of a state is left out, then each quotient transition of another state with the
 -- same class number is also a quotient transition of this state.
-use Rattle.std.proofs.Common.{rules, ◌≡◌, ◌≢◌, ◌∙◌, ◌↔◌, ℕ, ◌<◌, ◌≤◌, true, not, Option, List, length, map, [], get_or}
+use Rattle.std.proofs.Common.{rules, ◌≡◌, ◌≢◌, ◌∙◌, ◌↔◌, ℕ, ◌<◌, ◌≤◌, true, not, List, length, map, [], get_or}
 use Rattle.std.proofs.Common.{Contains, IsPermutation, refl, sym, ap, subst, arith}
 use Rattle.std.specs.List.{AllPairs}
 use Rattle.std.proofs.lemmas.Bool.{both_ways, false_from_ne_true}
@@ -21,7 +21,7 @@ use Rattle.lts.specs.Labels.{text_of, IsTable}
 use Rattle.lts.specs.Lts.{Triple, source_of, label_of, target_of, row_of, transition_of, system_from, system_of}
 use Rattle.lts.specs.Lts.{IsTriple, InRange, IsLts, Grouped, IsBuilt}
 use Rattle.quotient_core.specs.Numbers.{IsNumbering}
-use Rattle.quotient_core.specs.Triples.{Numbered, number_of, between_numbers, is_left_out, shown_by, is_reached}
+use Rattle.quotient_core.specs.Triples.{number_of, between_numbers, is_left_out, shown_by, is_reached}
 use Rattle.quotient_core.specs.Triples.{HasShown, ShowEachOther}
 use Rattle.quotient_core.specs.declared.numbering.Numbering.{Numbering}
 use Rattle.theory.proofs.CallerLemmas.{leads_on, quotient_reordered}
@@ -56,10 +56,10 @@ dropped_is Branching A labels x s t same = (λ h. (h.0, same.0 h.1), λ h. (h.0,
 -- which is the number of the quotient state that represents it. Second, the program leaves out a triple (source, label
 -- ID, target) if and only if the quotient modulo `rel` drops the transition that the triple denotes (`IsDropped`). All
 -- other fields of this record are theorems of the crates `theory` and `lts` about the system g.
-pub record IsNumbered (rel : Relation) (g : Grouped) (n : Numbering) (dropped : Option ℕ) : Type 0 where
+pub record IsNumbered (rel : Relation) (g : Grouped) (n : Numbering) : Type 0 where
   pub numbering : IsNumbering rel (system_of g) n
   pub drops : (x : Triple) → label_of x < length g.labels →
-      (is_left_out dropped x ≡ true) ↔ IsDropped rel (transition_of g.labels x)
+      (is_left_out n.dropped x ≡ true) ↔ IsDropped rel (transition_of g.labels x)
   pub lts : IsLts g
   pub one_number : (s m n : ℕ) → Number rel (system_of g) s m → Number rel (system_of g) s n → m ≡ n
   pub classes : (s t m n : ℕ) → Reachable (system_of g) s → Reachable (system_of g) t →
@@ -73,10 +73,7 @@ pub record IsNumbered (rel : Relation) (g : Grouped) (n : Numbering) (dropped : 
   pub steps : (s : ℕ) (a : List ℕ) (t : ℕ) → Step (system_of g) s a t ↔
       ((e : Triple) × Contains (row_of s g.places) e × (text_of g.labels (label_of e) ≡ a) × (target_of e ≡ t))
 
-module _ {rel : Relation} {g : Grouped} {n : Numbering} {dropped : Option ℕ} (is : IsNumbered rel g n dropped) where
-  abbrev rows : Numbered
-  rows = record { l = g; n = n; dropped = dropped }
-
+module _ {rel : Relation} {g : Grouped} {n : Numbering} (is : IsNumbered rel g n) where
   abbrev A : System
   A = system_of g
 
@@ -91,7 +88,7 @@ module _ {rel : Relation} {g : Grouped} {n : Numbering} {dropped : Option ℕ} (
   way_on : (s : ℕ) (e : Triple) → Contains (row_of s g.places) e → Reachable A s → Reachable A (target_of e)
   way_on s e c way = leads_on (AnyStep A) g.first s (target_of e) way (_, (is.steps s _ _).1 (e, c, refl, refl))
 
-  module _ (es : List Triple) (shown : HasShown rows (is_reached rows) es) (once : AllPairs (λ x y. x ≢ y) es) where
+  module _ (es : List Triple) (shown : HasShown g n (is_reached n) es) (once : AllPairs (λ x y. x ≢ y) es) where
     -- If a transition leads from u to v, its quotient transition leads from the quotient state that represents u to the
     -- quotient state that represents v. Let the list `es` have exactly the quotient transitions of all reachable
     -- states, except those that the quotient leaves out. In each triple (source, label ID, target) of `es`, the source
@@ -102,14 +99,14 @@ module _ {rel : Relation} {g : Grouped} {n : Numbering} {dropped : Option ℕ} (
     each_is x c =
         let (s, m, d) = (shown.exactly x).0 c in
         let way = (is.numbering.reached s).0 m in
-        let (e, in_row, from, stays) = place_of rows s x d in
+        let (e, in_row, from, stays) = place_of g n s x d in
         let on = way_on s e in_row way in
         let below = λ (t : ℕ) (w : Reachable A t). is.numbering.numbered.below t ((is.numbering.reached t).1 w) in
         let number = is.numbering.number in
         rw (← from) (
           record { source = below s way; label = (in_range s e in_row).label; target = below (target_of e) on },
           (s, target_of e, way, (is.steps s _ _).1 (e, in_row, refl, refl), number s way, number (target_of e) on),
-          λ gone. both_ways _ stays ((is.drops (between_numbers rows s e) (in_range s e in_row).label).1 gone),
+          λ gone. both_ways _ stays ((is.drops (between_numbers n s e) (in_range s e in_row).label).1 gone),
         )
 
     -- If a transition leads from u to v, its quotient transition leads from the quotient state that represents u to the
@@ -143,15 +140,15 @@ module _ {rel : Relation} {g : Grouped} {n : Numbering} {dropped : Option ℕ} (
                 let ((s, t, way, step, hs, ht), stays) = h in
                 let (f, in_row, label, to) = (is.steps s e.label t).0 step in
                 let on : Reachable A t = leads_on (AnyStep A) g.first s t way (e.label, step) in
-                let source : number_of rows s ≡ e.source = is.one_number s _ _ (is.numbering.number s way) hs in
-                let target : number_of rows (target_of f) ≡ e.target =
-                ap (number_of rows) to ∙ is.one_number t _ _ (is.numbering.number t on) ht in
-                let same : transition_of g.labels (between_numbers rows s f) ≡ e =
+                let source : number_of n s ≡ e.source = is.one_number s _ _ (is.numbering.number s way) hs in
+                let target : number_of n (target_of f) ≡ e.target =
+                ap (number_of n) to ∙ is.one_number t _ _ (is.numbering.number t on) ht in
+                let same : transition_of g.labels (between_numbers n s f) ≡ e =
                 λ i. record { source = source i; label = label i; target = target i } in
-                let place = shown_place rows s f in_row (false_from_ne_true _ (λ gone. stays (subst (IsDropped rel) same
-                ((is.drops (between_numbers rows s f) (in_range s f in_row).label).0 gone)))) in
+                let place = shown_place g n s f in_row (false_from_ne_true _ (λ gone. stays (subst (IsDropped rel) same
+                ((is.drops (between_numbers n s f) (in_range s f in_row).label).0 gone)))) in
                 subst (Contains (map (transition_of g.labels) es)) same (contains_mapped (transition_of g.labels) es _
-                ((shown.exactly (between_numbers rows s f)).1 (s, (is.numbering.reached s).1 way, place))),
+                ((shown.exactly (between_numbers n s f)).1 (s, (is.numbering.reached s).1 way, place))),
           );
           once = transitions_differ g.labels es is.lts.table (λ x c. (each_is x c).0.label) once;
         } in
@@ -161,43 +158,43 @@ module _ {rel : Relation} {g : Grouped} {n : Numbering} {dropped : Option ℕ} (
 
   -- The class number of a reachable state is the number of the quotient state that represents it. Two reachable states
   -- have the same class number if and only if they are bisimilar.
-  same_is : (s t : ℕ) → Reachable A s → Reachable A t → (number_of rows s ≡ number_of rows t) ↔ Bisimilar rel A s A t
+  same_is : (s t : ℕ) → Reachable A s → Reachable A t → (number_of n s ≡ number_of n t) ↔ Bisimilar rel A s A t
   same_is s t ws wt = is.classes s t _ _ ws wt (is.numbering.number s ws) (is.numbering.number t wt)
 
   -- The quotient leaves out a transition of a reachable state if and only if this transition is inert.
   inert_is : (s : ℕ) (e : Triple) → Reachable A s → Contains (row_of s g.places) e →
-      (is_left_out dropped (between_numbers rows s e) ≡ true) ↔ ShowsNothing rel A s
+      (is_left_out n.dropped (between_numbers n s e) ≡ true) ↔ ShowsNothing rel A s
       (text_of g.labels (label_of e)) (target_of e)
-  inert_is s e way c = let inert = dropped_is rel A g.labels (between_numbers rows s e) s (target_of e)
+  inert_is s e way c = let inert = dropped_is rel A g.labels (between_numbers n s e) s (target_of e)
       (same_is s (target_of e) way (way_on s e c way)) in
-      let out = is.drops (between_numbers rows s e) (in_range s e c).label in
+      let out = is.drops (between_numbers n s e) (in_range s e c).label in
       (λ gone. inert.0 (out.0 gone), λ nothing. out.1 (inert.1 nothing))
 
   -- If a transition leads from u to v, its quotient transition leads from the quotient state that represents u to the
   -- quotient state that represents v. Suppose that the same quotient state represents the reachable states s and t, and
   -- that the quotient leaves out no transition of s. Then each quotient transition of t that the quotient does not
   -- leave out is also a quotient transition of s.
-  pub show_each_other : ShowEachOther rows
+  pub show_each_other : ShowEachOther g n
   show_each_other s t ms mt same whole x c =
       let ws = (is.numbering.reached s).0 ms in
       let wt = (is.numbering.reached t).0 mt in
       let row = row_of s g.places in
-      let triples : List Triple = map (between_numbers rows s) row in
-      let out = λ (x : Triple). is_left_out dropped x in
+      let triples : List Triple = map (between_numbers n s) row in
+      let out = λ (x : Triple). is_left_out n.dropped x in
       let none : (b : List ℕ) (v : ℕ) → Step A s b v → ¬ ShowsNothing rel A s b v = λ b v own inert.
       let (e, d, label, to) = (is.steps s b v).0 own in
-      let found = contains_passing out triples (between_numbers rows s e)
-      (contains_mapped (between_numbers rows s) row e d) ((inert_is s e ws d).1 (rw (label, to) inert)) in
+      let found = contains_passing out triples (between_numbers n s e)
+      (contains_mapped (between_numbers n s) row e d) ((inert_is s e ws d).1 (rw (label, to) inert)) in
       let counts = length-filter_both out (λ x. not (out x)) (λ x. refl) triples in
-      absurd (omega (arith, counts, whole, length-map row (between_numbers rows s), found.1)) in
-      let (e, there, from, stays) = place_of rows t x c in
+      absurd (omega (arith, counts, whole, length-map row (between_numbers n s), found.1)) in
+      let (e, there, from, stays) = place_of g n t x c in
       let a = text_of g.labels (label_of e) in
       let (u, step, alike) = is.shows_all s t a (target_of e) ((same_is s t ws wt).0 same) none
       ((is.steps t _ _).1 (e, there, refl, refl)) (λ inert. both_ways _ stays ((inert_is t e wt there).1 inert)) in
       let (f, in_row, text, ends) = (is.steps s a u).0 step in
-      let target : number_of rows (target_of f) ≡ number_of rows (target_of e) = ap (number_of rows) ends
+      let target : number_of n (target_of f) ≡ number_of n (target_of e) = ap (number_of n) ends
       ∙ sym ((same_is (target_of e) u (way_on t e there wt) (leads_on (AnyStep A) g.first s u ws (a, step))).1 alike) in
       let label : label_of f ≡ label_of e = is.lts.table.different (label_of f) (label_of e)
       (in_range s f in_row).label (in_range t e there).label text in
-      let shown : between_numbers rows s f ≡ between_numbers rows t e = λ i. (same i, label i, target i) in
-      subst (Contains (shown_by rows s)) (shown ∙ from) (shown_place rows s f in_row (rw shown stays))
+      let shown : between_numbers n s f ≡ between_numbers n t e = λ i. (same i, label i, target i) in
+      subst (Contains (shown_by g n s)) (shown ∙ from) (shown_place g n s f in_row (rw shown stays))

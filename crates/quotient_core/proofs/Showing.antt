@@ -22,18 +22,19 @@ use Rattle.std.proofs.lemmas.Bool.Decides.{nat_tests}
 use Rattle.std.proofs.lemmas.List.{length-append, length-map}
 use Rattle.std.proofs.lemmas.List.Elements.{Contains-get_or, Contains-append_cases, Contains-append_left}
 use Rattle.std.proofs.lemmas.List.Elements.{Contains-append_right}
-use Rattle.lts.specs.Lts.{Triple, source_of, row_of}
+use Rattle.lts.specs.Lts.{Triple, Grouped, source_of, row_of}
 use Rattle.lts.specs.Meter.{Counts, Costs}
 use Rattle.partition.specs.Blocks.{AreStatesOf}
 use Rattle.quotient_core.specs.Numbers.{AreNumbered}
-use Rattle.quotient_core.specs.Triples.{Numbered, number_of, shown_by, is_reached, is_member, ShowEachOther, rows_of}
+use Rattle.quotient_core.specs.declared.numbering.Numbering.{Numbering}
+use Rattle.quotient_core.specs.Triples.{number_of, shown_by, is_reached, is_member, ShowEachOther, rows_of}
 use Rattle.quotient_core.specs.Triples.{HasShown, between_numbers, is_left_out}
 use Rattle.std.proofs.lemmas.Grind.{elements}
 use Rattle.quotient_core.proofs.Reaching.{marked_below}
 use Rattle.lts.proofs.CallerLemmas.{contains_mapped, mapped_contains, contains_passing, passing_contains}
 use Rattle.std.proofs.lemmas.Bool.{not-true, not_from_false}
 use Rattle.std.proofs.lemmas.List.Sums.{length-filter, count_by-le-length}
-use Rattle.quotient_core.proofs.Visits.{visits_then, Parts, rows_part, rows_few}
+use Rattle.quotient_core.proofs.Visits.{visits_then, room_after, Parts, rows_part, rows_few}
 
 -- `triple_cmp` compares two triples: first by source, then by label, then by target.
 abbrev triple_cmp : Triple → Triple → Ordering
@@ -57,51 +58,51 @@ tidied_once ys zs filtered sorted = rw (dedup_is triple_eq ys zs filtered) (λ i
     let self : triple_cmp y y ≡ Less = rw same at less in
     let bad : Less ≡ Greater = rw self at (triple_total.antisymm y y) in cc)
 
-module _ (rows : Numbered) (s : ℕ) where
+module _ (g : Grouped) (n : Numbering) (s : ℕ) where
   -- A quotient transition is a transition between quotient states. Each quotient transition x of the state s comes from
   -- a transition of s, and the quotient does not leave out x.
-  pub place_of : (x : Triple) → Contains (shown_by rows s) x → (e : Triple) × Contains (row_of s rows.l.places) e
-      × (between_numbers rows s e ≡ x) × (is_left_out rows.dropped (between_numbers rows s e) ≡ false)
+  pub place_of : (x : Triple) → Contains (shown_by g n s) x → (e : Triple) × Contains (row_of s g.places) e
+      × (between_numbers n s e ≡ x) × (is_left_out n.dropped (between_numbers n s e) ≡ false)
   place_of x c =
-      let shows = passing_contains (λ y. not (is_left_out rows.dropped y))
-      (map (between_numbers rows s) (row_of s rows.l.places)) x c in
-      let from = mapped_contains (between_numbers rows s) (row_of s rows.l.places) x shows.0 in
+      let shows = passing_contains (λ y. not (is_left_out n.dropped y))
+      (map (between_numbers n s) (row_of s g.places)) x c in
+      let from = mapped_contains (between_numbers n s) (row_of s g.places) x shows.0 in
       (from.0, from.1, from.2, rw from.2 (not-true _ shows.1))
 
-  pub shown_place : (e : Triple) → Contains (row_of s rows.l.places) e →
-      is_left_out rows.dropped (between_numbers rows s e) ≡ false →
-      Contains (shown_by rows s) (between_numbers rows s e)
-  shown_place e c stays = contains_passing (λ y. not (is_left_out rows.dropped y))
-      (map (between_numbers rows s) (row_of s rows.l.places)) (between_numbers rows s e)
-      (contains_mapped (between_numbers rows s) (row_of s rows.l.places) e c) (not_from_false _ stays)
+  pub shown_place : (e : Triple) → Contains (row_of s g.places) e →
+      is_left_out n.dropped (between_numbers n s e) ≡ false →
+      Contains (shown_by g n s) (between_numbers n s e)
+  shown_place e c stays = contains_passing (λ y. not (is_left_out n.dropped y))
+      (map (between_numbers n s) (row_of s g.places)) (between_numbers n s e)
+      (contains_mapped (between_numbers n s) (row_of s g.places) e c) (not_from_false _ stays)
 
-module _ {rows : Numbered} where
+module _ {g : Grouped} {n : Numbering} where
   -- A quotient transition is a transition between quotient states. Suppose that each state that satisfies p satisfies
   -- exactly one of q and r, and that each other state satisfies neither q nor r (`Parts`). Suppose also that the list
   -- xs has the quotient transitions of the states that satisfy q, and that the list ys has the quotient transitions of
   -- the states that satisfy r. Then xs followed by ys has the quotient transitions of the states that satisfy p.
-  pub shown_with : {p q r : ℕ → Bool} {xs ys : List Triple} → Parts p q r → HasShown rows q xs → HasShown rows r ys →
-      HasShown rows p (xs ++ ys)
-  shown_with {p} {q} {r} {xs} {ys} parts h g = record {
+  pub shown_with : {p q r : ℕ → Bool} {xs ys : List Triple} → Parts p q r → HasShown g n q xs → HasShown g n r ys →
+      HasShown g n p (xs ++ ys)
+  shown_with {p} {q} {r} {xs} {ys} parts h own = record {
     exactly = λ x. (
       λ c. elim (Contains-append_cases xs ys x c) [
         | inl d ↦ let f = (h.exactly x).0 d in (f.0, grind (arith, parts f.0, f.1), f.2)
-        | inr d ↦ let f = (g.exactly x).0 d in (f.0, grind (arith, parts f.0, f.1), f.2)
+        | inr d ↦ let f = (own.exactly x).0 d in (f.0, grind (arith, parts f.0, f.1), f.2)
       ],
       λ f. elim (cases f.0 f.1) [
         | inl d ↦ Contains-append_left xs ys x ((h.exactly x).1 (f.0, d, f.2))
-        | inr d ↦ Contains-append_right xs ys x ((g.exactly x).1 (f.0, d, f.2))
+        | inr d ↦ Contains-append_right xs ys x ((own.exactly x).1 (f.0, d, f.2))
       ],
     );
-    few = omega (arith, length-append xs ys, rows_part p q r parts rows.l.places, h.few, g.few);
+    few = omega (arith, length-append xs ys, rows_part p q r parts g.places, h.few, own.few);
   }
     where
       cases : (s : ℕ) → IsTrue (p s) → IsTrue (q s) ⊎ IsTrue (r s)
       cases s h = grind (arith, parts s)
 
-  -- A quotient transition is a transition between quotient states. The list `shown_by rows s` has exactly the quotient
+  -- A quotient transition is a transition between quotient states. The list `shown_by g n s` has exactly the quotient
   -- transitions of the state s.
-  pub shown_row : (s : ℕ) → HasShown rows (λ t. eqb t s) (shown_by rows s)
+  pub shown_row : (s : ℕ) → HasShown g n (λ t. eqb t s) (shown_by g n s)
   shown_row s = record {
     exactly = λ x. (
       λ c. (s, grind (arith, nat_tests), c),
@@ -113,9 +114,9 @@ module _ {rows : Numbered} where
   -- Suppose that a list has exactly the quotient transitions (transitions between quotient states) of some states. If
   -- the list is sorted and its repeated elements are removed, then it still has exactly the quotient transitions of
   -- these states.
-  pub shown_tidy : {p : ℕ → Bool} {list sorted tidy : List Triple} → HasShown rows p list →
+  pub shown_tidy : {p : ℕ → Bool} {list sorted tidy : List Triple} → HasShown g n p list →
       IsPermutation list sorted → IsFiltered (DiffersFromLast triple_eq) [] sorted tidy → length tidy ≤ length list →
-      HasShown rows p tidy
+      HasShown g n p tidy
   shown_tidy {list = list} {sorted = sorted} {tidy = tidy} h same filtered short = record {
     exactly = λ x. rw (dedup_is triple_eq sorted tidy filtered) (
       λ c. (h.exactly x).0 (Contains-permutation sorted list x (IsPermutation-sym list sorted same)
@@ -126,89 +127,92 @@ module _ {rows : Numbered} where
     few = omega (arith, short, h.few);
   }
 
--- `is_below` is true if the state s is reachable and its class number is less than n. The class number of s is the
+-- `is_below` is true if the state s is reachable and its class number is less than i. The class number of s is the
 -- number of the quotient state that represents s.
-abbrev pub is_below : Numbered → ℕ → ℕ → Bool
-is_below rows n s = is_reached rows s && ltb (number_of rows s) n
+abbrev pub is_below : Numbering → ℕ → ℕ → Bool
+is_below n i s = is_reached n s && ltb (number_of n s) i
 
 -- The class number of a state is the number of the quotient state that represents it. A reachable state has a class
--- number less than n + 1 if and only if its class number is less than n or equal to n. The two cases exclude each other
+-- number less than i + 1 if and only if its class number is less than i or equal to i. The two cases exclude each other
 -- (`Parts`).
-pub below_next : (rows : Numbered) (n : ℕ) → Parts (is_below rows (n + 1)) (is_below rows n) (is_member rows n)
-below_next rows n s = grind (arith, nat_tests)
+pub below_next : (n : Numbering) (i : ℕ) → Parts (is_below n (i + 1)) (is_below n i) (is_member n i)
+below_next n i s = grind (arith, nat_tests)
 
 -- The class number of a state is the number of the quotient state that represents it. Consider the reachable states
--- with class numbers less than n and the reachable states with the class number n. Together, these states have at most
+-- with class numbers less than i and the reachable states with the class number i. Together, these states have at most
 -- as many transitions as the whole system.
-pub rows_fit : (rows : Numbered) (n : ℕ) → length (rows_of (is_below rows n) rows.l.places)
-    + length (rows_of (is_member rows n) rows.l.places) ≤ length rows.l.places
-rows_fit rows n = let part = rows_part _ _ _ (below_next rows n) rows.l.places in
-    omega (arith, part, rows_few (is_below rows (n + 1)) rows.l.places)
+pub rows_fit : (g : Grouped) (n : Numbering) (i : ℕ) → length (rows_of (is_below n i) g.places)
+    + length (rows_of (is_member n i) g.places) ≤ length g.places
+rows_fit g n i = let part = rows_part _ _ _ (below_next n i) g.places in
+    omega (arith, part, rows_few (is_below n (i + 1)) g.places)
+
+-- The lemmas about the number of visits (reads of transitions) of the loop that reads the system class by class.
+pub ruleset class_by_class = (rows_fit, rows_few, visits_then, room_after)
 
 -- A quotient transition is a transition between quotient states, which represent the classes of states. Suppose that
--- the quotient transitions in the list xs come from the classes with numbers less than n, and are pairwise different.
--- Suppose also that the quotient transitions in the list ys come from the class n, and are pairwise different. Then the
+-- the quotient transitions in the list xs come from the classes with numbers less than i, and are pairwise different.
+-- Suppose also that the quotient transitions in the list ys come from the class i, and are pairwise different. Then the
 -- quotient transitions in xs followed by ys are pairwise different.
-pub once_next : (rows : Numbered) (n : ℕ) (xs ys : List Triple) → HasShown rows (is_below rows n) xs →
-    HasShown rows (is_member rows n) ys → AllPairs (λ x y. x ≢ y) xs → AllPairs (λ x y. x ≢ y) ys →
+pub once_next : (g : Grouped) (n : Numbering) (i : ℕ) (xs ys : List Triple) → HasShown g n (is_below n i) xs →
+    HasShown g n (is_member n i) ys → AllPairs (λ x y. x ≢ y) xs → AllPairs (λ x y. x ≢ y) ys →
     AllPairs (λ x y. x ≢ y) (xs ++ ys)
-once_next rows n xs ys h g one other i j d low high =
-    let k = j - length xs in
-    let x = get_or xs i d in
-    let apart = λ (c : Contains xs x) (e : Contains ys x). differ ((h.exactly x).0 c) ((g.exactly x).0 e) in
-    let here = Contains-get_or xs i d in
+once_next g n i xs ys h own one other a b d low high =
+    let k = b - length xs in
+    let x = get_or xs a d in
+    let apart = λ (c : Contains xs x) (e : Contains ys x). differ ((h.exactly x).0 c) ((own.exactly x).0 e) in
+    let here = Contains-get_or xs a d in
     let there = Contains-get_or ys k d in
-    grind (arith, elements, one i j d low, other (i - length xs) k d, apart, here, there)
+    grind (arith, elements, one a b d low, other (a - length xs) k d, apart, here, there)
   where
-    differ : {x : Triple} → (s : ℕ) × IsTrue (is_below rows n s) × Contains (shown_by rows s) x →
-        (t : ℕ) × IsTrue (is_member rows n t) × Contains (shown_by rows t) x → ⊥
+    differ : {x : Triple} → (s : ℕ) × IsTrue (is_below n i s) × Contains (shown_by g n s) x →
+        (t : ℕ) × IsTrue (is_member n i t) × Contains (shown_by g n t) x → ⊥
     differ {x} (s, low, c) (t, is, e) =
-        let (_, _, one, _) = place_of rows s x c in
-        let (_, _, two, _) = place_of rows t x e in
+        let (_, _, one, _) = place_of g n s x c in
+        let (_, _, two, _) = place_of g n t x e in
         grind (arith, nat_tests, low, is, ap source_of one, ap source_of two)
 
 -- The loop of `read_class` takes the states of the block of a class one after the other. `was_read` is true if the
--- state s is a member of the class n, and is among the first k states that the loop takes.
-abbrev pub was_read : Numbered → ℕ → List ℕ → (ℕ → ℕ) → ℕ → ℕ → Bool
-was_read rows n members at k s =
-    is_member rows n s && ltb (cond (eqb (at s + 1) (length members)) 0 (at s + 1)) k
+-- state s is a member of the class i, and is among the first k states that the loop takes.
+abbrev pub was_read : Numbering → ℕ → List ℕ → (ℕ → ℕ) → ℕ → ℕ → Bool
+was_read n i members at k s =
+    is_member n i s && ltb (cond (eqb (at s + 1) (length members)) 0 (at s + 1)) k
 
 -- The loop of `read_class` takes the states of the block of a class one after the other. `IsReadTo` is the invariant of
--- this loop after it has taken the first k states of the block of the class n. It has two main conditions. First, the
+-- this loop after it has taken the first k states of the block of the class i. It has two main conditions. First, the
 -- list `class` has exactly the quotient transitions (transitions between quotient states) of the reachable states among
 -- these k states. Second, the number of visits (counted reads of transitions) is at most the number of transitions of
 -- these reachable states.
-pub record IsReadTo (rows : Numbered) (n : ℕ) (members : List ℕ) (k : ℕ) (class : List Triple)
+pub record IsReadTo (g : Grouped) (n : Numbering) (i : ℕ) (members : List ℕ) (k : ℕ) (class : List Triple)
     (old new : Counts) : Type 0 where
-  pub below : n < length rows.n.classes.items
-  pub numbered : AreNumbered rows.l.states rows.n
-  pub are : let b = slice_index rows.n.classes.items n in AreStatesOf rows.n.blocks.block_ids b (b + 1) members
-  pub shown : HasShown rows (was_read rows n members are.at k) class
-  pub visits : let own = rows_of (was_read rows n members are.at k) rows.l.places in Costs old new 0 0 (length own)
+  pub below : i < length n.classes.items
+  pub numbered : AreNumbered g.states n
+  pub are : let b = slice_index n.classes.items i in AreStatesOf n.blocks.block_ids b (b + 1) members
+  pub shown : HasShown g n (was_read n i members are.at k) class
+  pub visits : let own = rows_of (was_read n i members are.at k) g.places in Costs old new 0 0 (length own)
 
-module _ {rows : Numbered} {n : ℕ} {members : List ℕ} {k : ℕ} {class : List Triple} {old mid : Counts}
-    (h : IsReadTo rows n members k class old mid) where
+module _ {g : Grouped} {n : Numbering} {i : ℕ} {members : List ℕ} {k : ℕ} {class : List Triple} {old mid : Counts}
+    (h : IsReadTo g n i members k class old mid) where
   abbrev read : ℕ → ℕ → Bool
-  read = was_read rows n members h.are.at
+  read = was_read n i members h.are.at
 
-  -- The members of a class are the reachable states of its block. Each member of the class n is in the list of the
+  -- The members of a class are the reachable states of its block. Each member of the class i is in the list of the
   -- states of this block.
-  there : (s : ℕ) → IsTrue (is_member rows n s) → (h.are.at s < length members) × (slice_index members (h.are.at s) ≡ s)
+  there : (s : ℕ) → IsTrue (is_member n i s) → (h.are.at s < length members) × (slice_index members (h.are.at s) ≡ s)
   there s m =
-      let below = marked_below rows.l.states rows.n.reached.items s h.numbered.reached_long in
-      grind (arith, nat_tests, h.numbered.class s n, h.below, h.are.all s, below, h.numbered.blocks_long)
+      let below = marked_below g.states n.reached.items s h.numbered.reached_long in
+      grind (arith, nat_tests, h.numbered.class s i, h.below, h.are.all s, below, h.numbered.blocks_long)
 
   -- The loop of `read_class` reads the transitions of the members of a class, one member after the other. The members
   -- that were read so far have at most as many transitions as all members of the class. After all members were read,
   -- the list `class` has exactly the quotient transitions (transitions between quotient states) of the class.
-  pub read_few : (i : ℕ) → length (rows_of (read i) rows.l.places) ≤ length (rows_of (is_member rows n) rows.l.places)
-  read_few i = let rest = λ (s : ℕ). is_member rows n s && not (read i s) in
-      omega (arith, rows_part (is_member rows n) (read i) rest (λ s. grind (arith, nat_tests)) rows.l.places)
+  pub read_few : (m : ℕ) → length (rows_of (read m) g.places) ≤ length (rows_of (is_member n i) g.places)
+  read_few m = let rest = λ (s : ℕ). is_member n i s && not (read m s) in
+      omega (arith, rows_part (is_member n i) (read m) rest (λ s. grind (arith, nat_tests)) g.places)
 
-  pub read_all : length members ≤ k → HasShown rows (is_member rows n) class
+  pub read_all : length members ≤ k → HasShown g n (is_member n i) class
   read_all end =
-      let same : (s : ℕ) → read k s ≡ is_member rows n s = λ s. grind (arith, nat_tests, there s) in
-      subst (λ p. HasShown rows p class) (λ i s. same s i) h.shown
+      let same : (s : ℕ) → read k s ≡ is_member n i s = λ s. grind (arith, nat_tests, there s) in
+      subst (λ p. HasShown g n p class) (λ i s. same s i) h.shown
 
   -- The loop of `read_class` takes the states of a block one after the other. In the following lemmas, k states have
   -- been taken so far, and `next` is the state that the loop takes next.
@@ -216,24 +220,24 @@ module _ {rows : Numbered} {n : ℕ} {members : List ℕ} {k : ℕ} {class : Lis
     abbrev next : ℕ
     next = slice_index members j
 
-    pub next_below : next < rows.l.states
+    pub next_below : next < g.states
     next_below = omega (arith, (h.are.each j within).0, h.numbered.blocks_long)
 
     -- The loop of `read_class` takes the states of a block one after the other. Suppose that it has taken k states so
     -- far, and that the state `next`, which it takes next, is not reachable. Then the transitions of `next` are not
     -- read, and the invariant of the loop (`IsReadTo`) holds for the first k + 1 states of the block, with the same
     -- list `class`.
-    pub read_over : is_reached rows next ≡ false → IsReadTo rows n members (k + 1) class old mid
+    pub read_over : is_reached n next ≡ false → IsReadTo g n i members (k + 1) class old mid
     read_over out =
         let same : (s : ℕ) → read k s ≡ read (k + 1) s = λ s. grind (arith, nat_tests, there s) in
-        let shown : HasShown rows (read (k + 1)) class = subst (λ p. HasShown rows p class) (λ i s. same s i) h.shown in
-        let visits : let own = rows_of (read (k + 1)) rows.l.places in Costs old mid 0 0 (length own) =
-        subst (λ (p : ℕ → Bool). Costs old mid 0 0 (length (rows_of p rows.l.places))) (λ i s. same s i) h.visits in
+        let shown : HasShown g n (read (k + 1)) class = subst (λ p. HasShown g n p class) (λ i s. same s i) h.shown in
+        let visits : let own = rows_of (read (k + 1)) g.places in Costs old mid 0 0 (length own) =
+        subst (λ (p : ℕ → Bool). Costs old mid 0 0 (length (rows_of p g.places))) (λ i s. same s i) h.visits in
         search (rules, h, shown, visits)
 
-    module _ (way : IsTrue (is_reached rows next)) where
-      next_member : IsTrue (is_member rows n next)
-      next_member = grind (arith, nat_tests, h.numbered.class next n, h.below, h.are.each j)
+    module _ (way : IsTrue (is_reached n next)) where
+      next_member : IsTrue (is_member n i next)
+      next_member = grind (arith, nat_tests, h.numbered.class next i, h.below, h.are.each j)
 
       next_parts : Parts (read (k + 1)) (read k) (λ t. eqb t next)
       next_parts s = grind (arith, nat_tests, there s, next_member, h.are.each j)
@@ -241,22 +245,22 @@ module _ {rows : Numbered} {n : ℕ} {members : List ℕ} {k : ℕ} {class : Lis
       -- The loop of `read_class` reads the transitions of the members of a class, one member after the other. Let
       -- `next` be the member that is read next. The number of transitions of `next`, plus the number of transitions of
       -- the members that were read before, is at most the number of transitions of all members of the class.
-      pub fits : length (rows_of (read k) rows.l.places) + length (row_of next rows.l.places)
-          ≤ length (rows_of (is_member rows n) rows.l.places)
-      fits = omega (arith, rows_part _ _ _ next_parts rows.l.places, read_few (k + 1))
+      pub fits : length (rows_of (read k) g.places) + length (row_of next g.places)
+          ≤ length (rows_of (is_member n i) g.places)
+      fits = omega (arith, rows_part _ _ _ next_parts g.places, read_few (k + 1))
 
-      module _ {new : Counts} (row : Costs mid new 0 0 (length (row_of next rows.l.places))) where
-        pub read_visits : Costs old new 0 0 (length (rows_of (is_member rows n) rows.l.places))
+      module _ {new : Counts} (row : Costs mid new 0 0 (length (row_of next g.places))) where
+        pub read_visits : Costs old new 0 0 (length (rows_of (is_member n i) g.places))
         read_visits = visits_then h.visits row fits
 
-        module _ {more : List Triple} (put : more ≡ class ++ shown_by rows next) where
-          shown_next : HasShown rows (read (k + 1)) more
+        module _ {more : List Triple} (put : more ≡ class ++ shown_by g n next) where
+          shown_next : HasShown g n (read (k + 1)) more
           shown_next = rw put (shown_with next_parts h.shown (shown_row next))
 
-          pub read_next : IsReadTo rows n members (k + 1) more old new
+          pub read_next : IsReadTo g n i members (k + 1) more old new
           read_next =
-              let few = rows_part _ _ _ next_parts rows.l.places in
-              let visits : let own = rows_of (read (k + 1)) rows.l.places in Costs old new 0 0 (length own) =
+              let few = rows_part _ _ _ next_parts g.places in
+              let visits : let own = rows_of (read (k + 1)) g.places in Costs old new 0 0 (length own) =
               visits_then h.visits row (omega (arith, few)) in
               search (rules, h, shown_next, visits)
 
@@ -264,8 +268,8 @@ module _ {rows : Numbered} {n : ℕ} {members : List ℕ} {k : ℕ} {class : Lis
           -- Suppose that the loop of `read_class` has just read the transitions of the member `next` of a class, and
           -- that no transition of `next` is left out. Then the members of the class that have been read, including
           -- `next`, have all quotient transitions of the class.
-          pub read_enough : ShowEachOther rows → length (shown_by rows next) ≡ length (row_of next rows.l.places) →
-              HasShown rows (is_member rows n) more
+          pub read_enough : ShowEachOther g n → length (shown_by g n next) ≡ length (row_of next g.places) →
+              HasShown g n (is_member n i) more
           read_enough also whole = record {
             exactly = λ x. (
               λ c. let f = (shown_next.exactly x).0 c in (f.0, grind (arith, f.1), f.2),

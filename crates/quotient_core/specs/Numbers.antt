@@ -1,6 +1,6 @@
 -- Defines the class numbers of all reachable states. The class number of a reachable state is the number of the
 -- quotient state that represents it. One pass over the states in ascending order gives each reachable state its class
--- number. Other crates use `IsMarked`, `AreClasses` and `IsNumbering`.
+-- number. Other crates use `IsMarked` and `AreClasses`.
 use Rattle.std.specs.Prelude.{◌≡◌, ◌≢◌, ◌⊎◌, ◌↔◌, ℕ, ◌<◌, ◌≤◌, Bool, false, IsTrue, [], ◌∷◌, ◌++◌, List, length}
 use Rattle.std.specs.List.{slice_index, slice_index_or, slice_set}
 use Rattle.theory.specs.System.{System, Reachable}

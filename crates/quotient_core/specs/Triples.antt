@@ -7,23 +7,15 @@ use Rattle.std.specs.List.{Contains, filter, slice_index_or}
 use Rattle.lts.specs.Lts.{Triple, Grouped, source_of, label_of, target_of, row_of}
 use Rattle.quotient_core.specs.declared.numbering.Numbering.{Numbering}
 
--- `Numbered` has a system l, the class numbers n of its states, and an optional label ID `dropped`. The class number of
--- a reachable state is the number of the quotient state that represents it. If there is a label ID `dropped`, the
--- quotient leaves out the transitions that have this label and lead from a class to itself.
-pub record Numbered : Type 0 where
-  pub l : Grouped
-  pub n : Numbering
-  pub dropped : Option ℕ
-
 -- `number_of` returns the class number of the state s. If s is reachable, its class number is the number of the
 -- quotient state that represents s.
-abbrev pub number_of : Numbered → ℕ → ℕ
-number_of rows s = slice_index rows.n.numbers.items s
+abbrev pub number_of : Numbering → ℕ → ℕ
+number_of n s = slice_index n.numbers.items s
 
 -- `between_numbers` returns the triple for the transition e of the state s: the quotient state that represents s, the
 -- label ID of e, and the quotient state that represents the target of e.
-abbrev pub between_numbers : Numbered → ℕ → Triple → Triple
-between_numbers rows s e = (number_of rows s, label_of e, number_of rows (target_of e))
+abbrev pub between_numbers : Numbering → ℕ → Triple → Triple
+between_numbers n s e = (number_of n s, label_of e, number_of n (target_of e))
 
 -- `is_left_out` is true if the quotient leaves out the triple x (source, label ID, target). The quotient leaves out x
 -- if the label ID of x is `dropped`, and if the source of x equals its target.
@@ -34,27 +26,25 @@ is_left_out (Some k) x = (label_of x == k) && (source_of x == target_of x)
 -- `shown_by` lists the quotient transitions (transitions between quotient states) that come from the transitions of the
 -- state s. Each transition of s gives one triple, in which the source and the target are replaced by the quotient
 -- states that represent them. Triples for which `is_left_out` is true are removed.
-abbrev pub shown_by : Numbered → ℕ → List Triple
-shown_by rows s =
-    filter (λ x. not (is_left_out rows.dropped x)) (map (between_numbers rows s) (row_of s rows.l.places))
+abbrev pub shown_by : Grouped → Numbering → ℕ → List Triple
+shown_by g n s = filter (λ x. not (is_left_out n.dropped x)) (map (between_numbers n s) (row_of s g.places))
 
 -- `is_reached` is true if the state s is reachable.
-abbrev pub is_reached : Numbered → ℕ → Bool
-is_reached rows s = slice_index_or rows.n.reached.items s false
+abbrev pub is_reached : Numbering → ℕ → Bool
+is_reached n s = slice_index_or n.reached.items s false
 
 -- `is_member` is true if the state s is reachable and the quotient state i represents s.
-abbrev pub is_member : Numbered → ℕ → ℕ → Bool
-is_member rows i s = is_reached rows s && (number_of rows s == i)
+abbrev pub is_member : Numbering → ℕ → ℕ → Bool
+is_member n i s = is_reached n s && (number_of n s == i)
 
 -- A quotient transition is a transition between quotient states. The quotient transitions of a state come from the
 -- transitions of this state (`shown_by`). `ShowEachOther` holds if the following is true for any two reachable states s
 -- and t that the same quotient state represents. If s has as many quotient transitions as it has transitions, so that
 -- no transition of s is left out, then each quotient transition of t is also a quotient transition of s.
-abbrev pub ShowEachOther : Numbered → Type 0
-ShowEachOther rows =
-    (s t : ℕ) → IsTrue (is_reached rows s) → IsTrue (is_reached rows t) → number_of rows s ≡ number_of rows t →
-    length (shown_by rows s) ≡ length (row_of s rows.l.places) →
-    (x : Triple) → Contains (shown_by rows t) x → Contains (shown_by rows s) x
+abbrev pub ShowEachOther : Grouped → Numbering → Type 0
+ShowEachOther g n = (s t : ℕ) → IsTrue (is_reached n s) → IsTrue (is_reached n t) → number_of n s ≡ number_of n t →
+    length (shown_by g n s) ≡ length (row_of s g.places) →
+    (x : Triple) → Contains (shown_by g n t) x → Contains (shown_by g n s) x
 
 -- `rows_of` lists the transitions whose source satisfies the predicate `of`.
 abbrev pub rows_of : (ℕ → Bool) → List Triple → List Triple
@@ -63,6 +53,6 @@ rows_of of places = filter (λ e. of (source_of e)) places
 -- A quotient transition is a transition between quotient states. `HasShown` holds under two conditions. First, the list
 -- `shown` has exactly the quotient transitions of the states that satisfy the predicate `of`. Second, the length of
 -- `shown` is at most the number of transitions of these states.
-pub record HasShown (rows : Numbered) (of : ℕ → Bool) (shown : List Triple) : Type 0 where
-  pub exactly : (x : Triple) → Contains shown x ↔ ((s : ℕ) × IsTrue (of s) × Contains (shown_by rows s) x)
-  pub few : length shown ≤ length (rows_of of rows.l.places)
+pub record HasShown (g : Grouped) (n : Numbering) (of : ℕ → Bool) (shown : List Triple) : Type 0 where
+  pub exactly : (x : Triple) → Contains shown x ↔ ((s : ℕ) × IsTrue (of s) × Contains (shown_by g n s) x)
+  pub few : length shown ≤ length (rows_of of g.places)

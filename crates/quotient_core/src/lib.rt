@@ -6,12 +6,10 @@
 //! A call that returns a `Result` fails only if an allocation fails. The error is then `Memory`.
 #![tactic(auto)]
 
-mod numbered_rows;
 mod numbering;
 mod quotient;
 mod search;
 mod triples;
 
-pub use numbering::{Numbering, number};
 pub use quotient::quotient_of;
 pub use search::reachable;

@@ -6,6 +6,7 @@ ghost use Rattle.theory.specs.System.{Reachable};
 ghost use Rattle.theory.specs.declared.relation.Relation.{Relation};
 ghost use Rattle.lts.specs.Lts.{system_of};
 ghost use Rattle.quotient_core.specs.Numbers.{IsMarked, AreClasses, IsNumbering, TakesState};
+ghost use Rattle.quotient_core.specs.Triples.{is_left_out, is_reached, number_of};
 
 use lts::{Lts, Memory, Meter};
 use partition::Blocks;
@@ -15,10 +16,10 @@ use std::alloc::Global;
 /// number of the quotient state that represents the reachable states of this block.
 const NONE: u32 = u32::MAX;
 
-/// The class numbers of the reachable states, and the block of each class. The class number of a reachable state is the
-/// number of the quotient state that represents it.
+/// The class numbers of the reachable states, the block of each class, and the label that the quotient drops. The class
+/// number of a reachable state is the number of the quotient state that represents it.
 #[derive(Drop)]
-pub struct Numbering {
+pub(crate) struct Numbering {
     pub(crate) blocks: Blocks,
     /// Whether each state is reachable.
     pub(crate) reached: Vec<bool>,
@@ -27,6 +28,42 @@ pub struct Numbering {
     pub(crate) numbers: Vec<u32>,
     /// The block ID of each class. The class with the number i is at the index i.
     pub(crate) classes: Vec<u32>,
+    /// The ID of the label that the quotient drops, or `None` if it drops no label. The quotient leaves out all
+    /// transitions with this label that lead from a class to itself.
+    pub(crate) dropped: Option<u32>,
+}
+
+impl Numbering {
+    /// Returns whether the state `s` is reachable.
+    #[inline(always)]
+    pub fn is_reached(&self, s: u32) -> bool
+        requires { s < length self.now.reached.items }
+        ensures { result ≡ is_reached self.now s }
+    {
+        self.reached[s as usize]
+    }
+
+    /// Returns the class number of the state `s`. If `s` is reachable, its class number is the number of the quotient
+    /// state that represents `s`.
+    #[inline(always)]
+    pub fn number(&self, s: u32) -> u32
+        requires { s < length self.now.numbers.items }
+        ensures { result ≡ number_of self.now s }
+    {
+        self.numbers[s as usize]
+    }
+
+    /// Returns whether the quotient leaves out the transition `triple`, which has class numbers as its source and its
+    /// target. This is the case if its label ID is `dropped`, and if it leads from a class to itself.
+    #[inline(always)]
+    pub fn leaves_out(&self, triple: (u32, u32, u32)) -> bool
+        ensures { result ≡ is_left_out self.now.dropped triple }
+    {
+        match self.dropped {
+            Some(label) => triple.1 == label && triple.0 == triple.2,
+            None => false,
+        }
+    }
 }
 
 /// The class numbers that the loop of `number` has given so far, and the blocks of the classes with these numbers. A
@@ -42,31 +79,33 @@ struct Numbers {
 }
 
 /// Gives each reachable state its class number, which is the number of the quotient state that represents it. The
-/// blocks must be the classes of bisimilar states, for strong or for branching bisimilarity.
-pub fn number<M: Meter>(
+/// blocks must be the classes of bisimilar states, for strong or for branching bisimilarity. The argument `dropped` is
+/// the ID of the label that the quotient drops, or `None` if it drops no label.
+pub(crate) fn number<M: Meter>(
     alloc: Global,
     l: &Lts<M>,
+    dropped: Option<u32>,
     blocks: Blocks,
     reached: Vec<bool>,
 ) -> Result<Numbering, Memory>
     requires blocks_long { length blocks.block_ids ≡ l.now.states }
     requires reached_long { length reached.items ≡ l.now.states }
     requires reached { (s : ℕ) → IsMarked reached.items s ↔ Reachable (system_of l.now) s }
-    ensures { (rel : Relation) → AreClasses rel l.now blocks.block_ids →
+    ensures classes { (rel : Relation) → AreClasses rel l.now blocks.block_ids →
         IfOk result (IsNumbering rel (system_of l.now)) }
+    ensures dropped { IfOk result (λ n. n.dropped ≡ dropped) }
 {
     theory::each_state_has_a_number();
     theory::numbers_are_classes();
     theory::leaders_are_counted();
-    let states = l.states();
     let first = blocks.block_ids()[l.first() as usize];
     let mut taken = Numbers {
         by_block: vec![in alloc; NONE; blocks.count() as usize]?,
-        numbers: Vec::with_capacity(alloc, states as usize)?,
+        numbers: Vec::with_capacity(alloc, l.states() as usize)?,
         classes: vec![in alloc; first]?,
     };
     taken.by_block[first as usize] = 0;
-    for s in 0..states {
+    for s in 0..l.states() {
         taken.add(blocks.block_ids()[s as usize], reached[s as usize])?;
     }
     Ok(Numbering {
@@ -74,6 +113,7 @@ pub fn number<M: Meter>(
         reached,
         numbers: taken.numbers,
         classes: taken.classes,
+        dropped,
     })
 }
 
@@ -86,15 +126,11 @@ impl Numbers {
         requires room { length self.old.classes.items < NONE }
         ensures { OnOk result (TakesState b is_reached self.old self.new) }
     {
-        let number = self.by_block[b as usize];
-        if !is_reached || number != NONE {
-            self.numbers.push(number)?;
-            return Ok(());
+        if is_reached && self.by_block[b as usize] == NONE {
+            self.by_block[b as usize] = self.classes.len() as u32;
+            self.classes.push(b)?;
         }
-        let next = self.classes.len() as u32;
-        self.by_block[b as usize] = next;
-        self.classes.push(b)?;
-        self.numbers.push(next)?;
+        self.numbers.push(self.by_block[b as usize])?;
         Ok(())
     }
 }

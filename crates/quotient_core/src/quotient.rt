@@ -1,41 +1,44 @@
-//! Builds the quotient of a system from the class numbers of its states. The class number of a state is the number of
-//! the quotient state that represents it.
-ghost use Rattle.std.specs.Prelude.{◌≡◌, ◌↔◌, ◌<◌, ◌≤◌, true, length, IfOk};
+//! Builds the quotient of a system from the blocks of bisimilar states.
+ghost use Rattle.std.specs.Prelude.{◌≡◌, ◌↔◌, ◌*◌, ◌<◌, ◌≤◌, true, length, IfOk};
 ghost use Rattle.theory.specs.Quotient.{IsDropped, Quotient};
 ghost use Rattle.lts.specs.Meter.{HasRoomFor, Costs};
 ghost use Rattle.lts.specs.Lts.{Triple, label_of, transition_of, system_of};
-ghost use Rattle.quotient_core.specs.Numbers.{IsNumbering};
+ghost use Rattle.quotient_core.specs.Numbers.{AreClasses};
 ghost use Rattle.quotient_core.specs.Triples.{is_left_out};
 
-use crate::numbered_rows::NumberedRows;
-use crate::numbering::Numbering;
+use crate::numbering::number;
+use crate::search::reachable;
 use crate::triples::shown_transitions;
 use lts::{Counter, Labels, Lts, Memory, Meter};
+use partition::Blocks;
 use std::alloc::Global;
 use theory::Relation;
 
-/// Builds the quotient of the system `l` modulo the relation `r`. The argument `numbering` has the class number of each
-/// reachable state. The class number of a state is the number of the quotient state that represents it.
+/// Builds the quotient of the system `l` modulo the relation `r`. The argument `blocks` has the classes of bisimilar
+/// states. The call makes two passes over the transitions: the first pass finds the reachable states, and the second
+/// pass builds the quotient. Each pass visits (reads) each transition at most once.
 pub fn quotient_of<M: Meter>(
     alloc: Global,
     l: &Lts<M>,
     r: Relation,
-    numbering: &Numbering,
+    blocks: Blocks,
     m: &mut M,
 ) -> Result<Lts<Counter>, Memory>
-    requires numbering { IsNumbering r (system_of l.now) numbering.now }
-    requires room { HasRoomFor (M.counted m.old) 0 (length l.now.places) }
+    requires blocks_long { length blocks.block_ids ≡ l.now.states }
+    requires classes { AreClasses r l.now blocks.block_ids }
+    requires room { HasRoomFor (M.counted m.old) 0 (2 * length l.now.places) }
     ensures quotient { IfOk result (λ q. Quotient r (system_of l.now) (system_of q)) }
     ensures fewer_transitions { IfOk result (λ q. length q.places ≤ length l.now.places) }
-    ensures visits { Costs (M.counted m.old) (M.counted m.new) 0 0 (length l.now.places) }
+    ensures visits { Costs (M.counted m.old) (M.counted m.new) 0 0 (2 * length l.now.places) }
 {
     l.invariants();
     lts::rows_are_steps();
     theory::each_state_has_a_number();
     theory::numbers_are_classes();
     theory::states_without_inert_steps_show_all();
-    let rows = NumberedRows::new(l, numbering, dropped(r, l.labels()));
-    let shown = shown_transitions(alloc, &rows, m)?;
+    let reached = reachable(alloc, l, m)?;
+    let numbering = number(alloc, l, dropped(r, l.labels()), blocks, reached)?;
+    let shown = shown_transitions(alloc, l, &numbering, m)?;
     Lts::with_labels_of(l, 0, numbering.classes.len() as u32, shown)
 }
 

@@ -5,35 +5,38 @@ ghost use Rattle.std.specs.Prelude.{◌≡◌, ◌≢◌, ◌↔◌, ℕ, ◌+�
 ghost use Rattle.std.specs.List.{AllPairs};
 ghost use Rattle.lts.specs.Meter.{HasRoomFor, Costs};
 ghost use Rattle.lts.specs.Lts.{row_of};
+ghost use Rattle.quotient_core.specs.Numbers.{AreNumbered};
 ghost use Rattle.quotient_core.specs.Triples.{shown_by, rows_of, is_reached, is_member, ShowEachOther, HasShown};
 
-use crate::numbered_rows::NumberedRows;
-use lts::{Memory, Meter, Transitions};
+use crate::numbering::Numbering;
+use lts::{Lts, Memory, Meter, Transitions};
 use std::alloc::Global;
 
 /// Returns the transitions of the quotient in ascending order, without repetitions. For branching bisimilarity, the
 /// quotient leaves out inert transitions, which are internal transitions between bisimilar states. The caller must
 /// ensure `ShowEachOther`: a state of which no transition is left out has all quotient transitions of each other state
 /// that the same quotient state represents.
+#[tactic(auto, using(crate::proofs::Showing::class_by_class))]
 pub(crate) fn shown_transitions<M: Meter>(
     alloc: Global,
-    rows: &NumberedRows<M>,
+    l: &Lts<M>,
+    numbering: &Numbering,
     m: &mut M,
 ) -> Result<Transitions, Memory>
-    requires whole { ShowEachOther rows.now }
-    requires room { HasRoomFor (M.counted m.old) 0 (length rows.now.l.places) }
-    ensures shown { IfOk result (HasShown rows.now (is_reached rows.now)) }
+    requires numbered { AreNumbered l.now.states numbering.now }
+    requires whole { ShowEachOther l.now numbering.now }
+    requires room { HasRoomFor (M.counted m.old) 0 (length l.now.places) }
+    ensures shown { IfOk result (HasShown l.now numbering.now (is_reached numbering.now)) }
     ensures once { IfOk result (AllPairs (λ x y. x ≢ y)) }
-    ensures visits { Costs (M.counted m.old) (M.counted m.new) 0 0 (length rows.now.l.places) }
+    ensures visits { Costs (M.counted m.old) (M.counted m.new) 0 0 (length l.now.places) }
 {
-    rows.invariants();
     let mut shown = Transitions::new(alloc);
     let mut class = Vec::new(alloc);
-    for number in 0..rows.classes().len() {
-        read_class(rows, number, &mut class, m)?;
+    for number in 0..numbering.classes.len() {
+        read_class(l, numbering, number, &mut class, m)?;
         class.sort_unstable();
         class.dedup();
-        add_class(&mut shown, &class, rows.edges())?;
+        add_class(&mut shown, &class, l.edges())?;
     }
     Ok(shown)
 }
@@ -55,29 +58,32 @@ fn add_class(shown: &mut Transitions, class: &[(u32, u32, u32)], most: u32) -> R
 /// this class, state by state. The quotient leaves out inert transitions. As soon as the function has read a state of
 /// which no transition is left out, it reads no further states. The caller must ensure that such a state has all
 /// quotient transitions of the class (`ShowEachOther`).
+#[tactic(auto, using(crate::proofs::Showing::next_below))]
 fn read_class<M: Meter>(
-    rows: &NumberedRows<M>,
+    l: &Lts<M>,
+    numbering: &Numbering,
     number: usize,
     class: &mut Vec<(u32, u32, u32)>,
     m: &mut M,
 ) -> Result<(), Memory>
-    requires class { number < length rows.now.n.classes.items }
-    requires whole { ShowEachOther rows.now }
-    requires room { let own = rows_of (is_member rows.now number) rows.now.l.places in
+    requires class { number < length numbering.now.classes.items }
+    requires numbered { AreNumbered l.now.states numbering.now }
+    requires whole { ShowEachOther l.now numbering.now }
+    requires room { let own = rows_of (is_member numbering.now number) l.now.places in
         HasRoomFor (M.counted m.old) 0 (length own) }
-    ensures class { OnOk result (HasShown rows.now (is_member rows.now number) class.new.items) }
-    ensures visits { let own = rows_of (is_member rows.now number) rows.now.l.places in
+    ensures class { let n = numbering.now in
+        OnOk result (HasShown l.now n (is_member n number) class.new.items) }
+    ensures visits { let own = rows_of (is_member numbering.now number) l.now.places in
         Costs (M.counted m.old) (M.counted m.new) 0 0 (length own) }
 {
-    rows.invariants();
     class.clear();
-    let members = rows.members(number);
+    let members = numbering.blocks.states_of(numbering.classes[number]);
     for k in 0..members.len() {
         let s = members[last_first(k, members.len())];
-        if !rows.is_reached(s) {
+        if !numbering.is_reached(s) {
             continue;
         }
-        if read_row(rows, s, class, m)? {
+        if read_row(l, numbering, s, class, m)? {
             return Ok(());
         }
     }
@@ -100,26 +106,30 @@ fn last_first(k: usize, members: usize) -> usize
 /// Appends to `class` the quotient transitions (transitions between quotient states) of the state `s`. The quotient
 /// leaves out inert transitions. Returns true if no transition of `s` is left out.
 fn read_row<M: Meter>(
-    rows: &NumberedRows<M>,
+    l: &Lts<M>,
+    numbering: &Numbering,
     s: u32,
     class: &mut Vec<(u32, u32, u32)>,
     m: &mut M,
 ) -> Result<bool, Memory>
-    requires state { s < rows.now.l.states }
-    requires room { HasRoomFor (M.counted m.old) 0 (length (row_of s rows.now.l.places)) }
-    ensures class { OnOk result (class.new.items ≡ class.old.items ++ shown_by rows.now s) }
+    requires numbered { AreNumbered l.now.states numbering.now }
+    requires state { s < l.now.states }
+    requires room { HasRoomFor (M.counted m.old) 0 (length (row_of s l.now.places)) }
+    ensures class { OnOk result
+        (class.new.items ≡ class.old.items ++ shown_by l.now numbering.now s) }
     ensures whole { IfOk result (λ whole. IsTrue whole
-        ↔ (length (shown_by rows.now s) ≡ length (row_of s rows.now.l.places))) }
+        ↔ (length (shown_by l.now numbering.now s) ≡ length (row_of s l.now.places))) }
     ensures visits { Costs (M.counted m.old) (M.counted m.new) 0 0
-        (length (row_of s rows.now.l.places)) }
+        (length (row_of s l.now.places)) }
 {
     lts::rows_follow();
-    rows.invariants();
-    let (number, had) = (rows.number(s), class.len());
-    let (start, end) = rows.row(s);
+    l.invariants();
+    let (number, had) = (numbering.number(s), class.len());
+    let (start, end) = l.row(s);
     for k in start..end {
-        let triple = rows.triple(number, k, m);
-        if rows.leaves_out(triple) {
+        let (label, target) = l.edge(k, m);
+        let triple = (number, label, numbering.number(target));
+        if numbering.leaves_out(triple) {
             continue;
         }
         class.push(triple)?;

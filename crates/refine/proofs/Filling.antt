@@ -1,18 +1,10 @@
 -- These lemmas are about the signatures of all states, and about the blocks that result from a split by these
 -- signatures.
-use Rattle.std.proofs.Common.{rules, ◌≡◌, ◌↔◌, ℕ, ◌<◌, List, [], length, map, slice_index, subst₂}
+use Rattle.std.proofs.Common.{rules, ◌≡◌, ◌↔◌, ℕ, ◌<◌, List, length, map, slice_index, subst₂}
 use Rattle.std.proofs.lemmas.List.{get_or-map, length-map}
 use Rattle.signatures.specs.Lists.{list_at, AreLists, AreIds}
 use Rattle.partition.specs.Splitting.{Splits}
-use Rattle.refine_core.specs.Signatures.{list_of}
 use Rattle.refine_core.proofs.CallerLemmas.{Splits-signatures}
-
--- The list `signature_ids` has the ID of an interned signature for each state. Take the list that results from
--- replacing each ID by the signature with this ID. In this list, the element at the index s is the signature of the
--- state s.
-pub signature_is : (interned : List (List (ℕ × ℕ))) (signature_ids : List ℕ) (s : ℕ) → s < length signature_ids →
-    list_at (map (list_at interned) signature_ids) s ≡ list_of interned signature_ids s
-signature_is interned signature_ids s h = get_or-map (list_at interned) signature_ids s 0 [] h
 
 -- Suppose that the old blocks are split by the IDs of the signatures of their states, and that the resulting blocks are
 -- then numbered in the order of their least members. Then two states share a resulting block if and only if they shared
@@ -26,4 +18,4 @@ pub split_alike : (interned signatures : List (List (ℕ × ℕ))) (signature_id
     → (s t : ℕ) → s < length p → t < length p → (slice_index q s ≡ slice_index q t)
     ↔ ((slice_index p s ≡ slice_index p t) × (list_at signatures s ≡ list_at signatures t))
 split_alike interned signed signature_ids ns p old new q count more view are each given size is split alike s t h k =
-    search (rules, length-map, subst₂, Splits-signatures, signature_is)
+    search (rules, length-map, subst₂, Splits-signatures, get_or-map)

@@ -1,6 +1,6 @@
 //! Computes the branching signature of one state by a search along inert transitions, which are internal transitions
 //! within a block. The search reads each outgoing transition of each found state exactly once.
-ghost use Rattle.std.specs.Prelude.{◌≡◌, ℕ, ◌+◌, ◌<◌, ◌≤◌, [], length, slice_index, IfOk, OnOk};
+ghost use Rattle.std.specs.Prelude.{◌≡◌, ℕ, ◌+◌, ◌<◌, ◌≤◌, [], length, slice_index, IfOk, OnOk, OnErr};
 ghost use Rattle.theory.specs.declared.relation.Relation.TheVariants.{Branching};
 ghost use Rattle.lts.specs.Meter.{HasRoomFor, Visits};
 ghost use Rattle.lts.specs.Lts.{row_of};
@@ -53,8 +53,7 @@ impl Search {
     }
 
     /// Stores the branching signature of the state `s` in `pairs`. The time that the call takes depends on the states
-    /// that the search finds and on their transitions, but not on the number of all states. If an allocation fails, the
-    /// call clears the marks of all states, which takes time proportional to the number of all states.
+    /// that the search finds and on their transitions, but not on the number of all states.
     pub fn sign<'a, M: Meter>(
         &mut self,
         l: &'a Lts<M>,
@@ -75,17 +74,11 @@ impl Search {
         theory::inert_steps_stay();
         let lens = Lens::new(l, blocks, None);
         lens.invariants();
-        match self.find(&lens, s, m) {
-            Ok(()) => {
-                unmark(&mut self.marked, &self.states);
-                order(&mut self.pairs);
-                Ok(())
-            }
-            Err(refusal) => {
-                self.marked.fill(false);
-                Err(refusal)
-            }
-        }
+        let found = self.find(&lens, s, m);
+        unmark(&mut self.marked, &self.states);
+        found?;
+        order(&mut self.pairs);
+        Ok(())
     }
 
     /// Finds the states to which inert transitions lead from `s`, including `s` itself. For each transition of these
@@ -98,7 +91,8 @@ impl Search {
         requires clear { IsClear lens.now.l.states self.old }
         requires room { HasRoomFor (M.counted m.old) 0 (length lens.now.l.places) }
         ensures found { OnOk result (FindsFrom lens.now s self.new (length self.new.states)) }
-        ensures size { length self.new.marked ≡ length self.old.marked }
+        ensures marks { (length self.new.marked ≡ lens.now.l.states)
+            × AreMarked self.new.marked self.new.states }
         ensures visits { Visits M.counted m.old m.new result
             (length (row_of s lens.now.l.places)) (length lens.now.l.places) }
     {
@@ -124,7 +118,7 @@ impl Search {
         requires room { HasRoomFor (M.counted m.old) 0
             (length (row_of (slice_index self.old.states i) lens.now.l.places)) }
         ensures found { OnOk result (Continues lens.now s self.old self.new (i + 1)) }
-        ensures size { length self.new.marked ≡ length self.old.marked }
+        ensures err { OnErr result (FindsFrom lens.now s self.new i) }
         ensures visits { let t = slice_index self.old.states i in
             let row = length (row_of t lens.now.l.places) in
             Visits M.counted m.old m.new result row row }
@@ -148,7 +142,7 @@ impl Search {
     fn explore(&mut self, step: Step) -> Result<(), Memory>
         requires { (t : ℕ) → step ≡ Inert t → t < length self.old.marked }
         ensures takes { OnOk result (ExploresStep step self.old self.new) }
-        ensures size { length self.new.marked ≡ length self.old.marked }
+        ensures err { OnErr result (self.new ≡ self.old) }
     {
         match step {
             Step::Inert(t) => self.reach(t)?,
@@ -161,7 +155,7 @@ impl Search {
     fn reach(&mut self, t: u32) -> Result<(), Memory>
         requires { t < length self.old.marked }
         ensures reaches { OnOk result (Reaches t self.old self.new) }
-        ensures size { length self.new.marked ≡ length self.old.marked }
+        ensures err { OnErr result (self.new ≡ self.old) }
     {
         if self.marked[t as usize] {
             return Ok(());

@@ -5,7 +5,7 @@ ghost use Rattle.memory.specs.declared.limits.TheConstants.{MOST_STATES};
 ghost use Rattle.lts.specs.Meter.{HasRoomFor, Visits};
 ghost use Rattle.lts.specs.Lts.{row_of};
 ghost use Rattle.inert.specs.Signed.{IsSignature};
-ghost use Rattle.refine.specs.Signed.{Appends, most_visits};
+ghost use Rattle.refine.specs.Signed.{most_visits};
 
 use crate::search::Search;
 use lts::{Lts, Memory, Meter};
@@ -75,8 +75,9 @@ pub trait Sense: Signing {
         requires room { HasRoomFor (M.counted m.old) 0 (most_visits Self.relation l.now s) }
 
         // On success
-        ensures appends { OnOk result
-            (Appends Self.relation l.now p.now s out.old.items out.new.items) }
+        ensures appends { OnOk result ((pairs : List (ℕ × ℕ))
+            × IsSignature Self.relation l.now p.now s pairs
+            × (out.new.items ≡ out.old.items ++ pairs)) }
 
         // On failure
         ensures extends { OnErr result

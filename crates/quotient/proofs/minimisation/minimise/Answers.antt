@@ -26,4 +26,4 @@ returns-clause-no_larger g c = let A = system_of c.args.l.now in
 
 pub returns-clause-keeps : goal.returns-clause-keeps
 returns-clause-keeps g c = let (r, low, turns, costs) = c.in_ok-blocks.ensures.turns in
-    minimised_keeps _ _ r _ _ _ _ _ c.requires.fresh low costs c.reachable.ensures.visits c.quotient_of.ensures.visits
+    minimised_keeps _ _ r _ c.requires.fresh low costs c.quotient_of.ensures.visits

@@ -12,13 +12,19 @@ use Rattle.quotient_core.proofs.numbering.number.Given.{Over}
 use Rattle.quotient_core.proofs.numbering.number.Goals as goal
 use Rattle.quotient_core.proofs.numbering.number.Goals.{In_ok-vec-2}
 
+pub bounds-block_ids-first : goal.bounds-block_ids-first
+bounds-block_ids-first g c = let l = c.args.l.now in
+    let low = marked_below l.states c.args.reached.items l.first c.requires.reached_long
+    ((c.requires.reached l.first).1 ([], refl)) in
+    rw (c.block_ids.ensures.block_ids, c.first.ensures, c.requires.blocks_long) low
+
 module _ (g : Over) (c : In_ok-vec-2 g) where
   -- If the blocks are the classes of bisimilar states, then the system and its blocks satisfy the assumptions of the
   -- proofs about the loop of `number` (`Laws`).
   laws : (rel : Relation) → AreClasses rel c.args.l.now c.args.blocks.block_ids →
       Laws rel (system_of c.args.l.now) (slice_index c.args.blocks.block_ids)
   laws rel classes = let A = system_of c.args.l.now in
-      let sys = c.states-states.ensures.lts.system in
+      let sys = c.states.ensures.lts.system in
       let counted = c.leaders_are_counted.ensures in
       record {
         same = classes;
@@ -51,7 +57,7 @@ loop-s-init g c = let at = (goal.at.loop-s-init g c).In_ok-vec-2 in
       room = rw (set_first g at) (omega (arith, length-set {A = ℕ}, length-replicate {A = ℕ}, c.count.ensures));
       few = omega (arith, ap length one);
       below = λ i l. let e : i ≡ 0 = omega (arith, l, ap length one) in
-          rw (one, e, of_first g at) (below g at c.args.l.now.first c.states-states.ensures.lts.in_range.first_below);
+          rw (one, e, of_first g at) (below g at c.args.l.now.first c.states.ensures.lts.in_range.first_below);
       taken = λ rel classes. Taken-start rel (system_of c.args.l.now) (slice_index c.args.blocks.block_ids)
           (laws g at rel classes) c.count.result _ (λ t l. omega (arith, below g at t l, c.count.ensures))
           (set_first g at) c.in_ok-with_capacity.ensures.items (one ∙ ap (λ b. b ∷ []) (of_first g at));
@@ -62,7 +68,7 @@ loop-s-preserved g c =
     let at = (goal.at.loop-s-preserved g c).In_ok-vec-2 in
     let s = c.loop-s.s in
     let up = c.loop-s.invariant in
-    let low : s < c.args.l.now.states = omega (arith, c.states-states.ensures.value) in
+    let low : s < c.args.l.now.states = omega (arith, c.states-s-end.ensures.value) in
     let takes = rw c.block_ids-in-loop-s.ensures.block_ids at c.in_ok-add.ensures in
     let mark = get_or_read c.args.reached.items s c.index.result.now (omega (arith, low, c.requires.reached_long))
     c.index.ensures false in
@@ -73,14 +79,14 @@ loop-s-preserved g c =
       below = λ i l. grind (arith, class_at takes i l, up.below i, below g at s low);
       taken = λ rel classes. Taken-adds rel (system_of c.args.l.now) _
           (laws g at rel classes) s c.loop-s.taken _ _ is_reached low
-          (omega (arith, low, c.states-states.ensures.lts.in_range.few_states)) up.few
+          (omega (arith, low, c.states.ensures.lts.in_range.few_states)) up.few
           (omega (arith, below g at s low, up.room)) (up.taken rel classes) takes;
     }
 
-pub returns : goal.returns
-returns g c = λ rel classes. let A = system_of c.args.l.now in
-    let laws = laws g (goal.at.returns g c).In_ok-vec-2 rel classes in
-    let end : c.loop-s.s ≡ A.states = omega (arith, c.states-states.ensures.value) in
+pub returns-clause-classes : goal.returns-clause-classes
+returns-clause-classes g c = λ rel classes. let A = system_of c.args.l.now in
+    let laws = laws g (goal.at.returns-clause-classes g c).In_ok-vec-2 rel classes in
+    let end : c.loop-s.s ≡ A.states = omega (arith, c.states-s-end.ensures.value) in
     let h = rw end at (c.loop-s.invariant.taken rel classes) in
     let seen = λ (s : ℕ) (way : Reachable A s). h.seen s (laws.below s way) way in
     let numbered = λ (s : ℕ) (way : Reachable A s). h.numbered s (laws.below s way) (seen s way).1 in

@@ -6,17 +6,17 @@ use Rattle.quotient_core.proofs.Quotients.{IsNumbered, quotient_in_range, built,
 use Rattle.quotient_core.proofs.Visits.{rows_few}
 use Rattle.quotient_core.proofs.quotient.quotient_of.Given.{Over}
 use Rattle.quotient_core.proofs.quotient.quotient_of.Goals as goal
-use Rattle.quotient_core.proofs.quotient.quotient_of.Goals.{After-new-rows, In_ok-shown, After-len}
+use Rattle.quotient_core.proofs.quotient.quotient_of.Goals.{In_ok-numbering, In_ok-shown, After-len}
 
 -- The class number of a state is the number of the quotient state that represents it. The system and the class numbers
 -- of its states satisfy the assumptions of the proofs about the quotient (`IsNumbered`).
-is : (g : Over) (c : After-new-rows g) → IsNumbered c.args.r c.args.l.now c.args.numbering.now c.dropped.result
+is : (g : Over) (c : In_ok-numbering g) → IsNumbered c.args.r c.args.l.now c.in_ok-numbering.numbering
 is g c = let r = c.args.r in
     let l = c.args.l.now in
     let sys = c.invariants.ensures.system in
     record {
-      numbering = c.requires.numbering;
-      drops = search rules;
+      numbering = c.in_ok-numbering.ensures.classes r c.requires.classes;
+      drops = rw (c.in_ok-numbering.ensures.dropped, ← c.labels.ensures) c.dropped.ensures;
       lts = c.invariants.ensures;
       one_number = λ s m n. c.each_state_has_a_number.ensures.one_number r (system_of l) s m n sys;
       classes = λ s t m n. c.numbers_are_classes.ensures r (system_of l) s t m n sys;
@@ -25,28 +25,33 @@ is g c = let r = c.args.r in
       steps = c.rows_are_steps.ensures.steps l;
     }
 
+pub shown_transitions-requires-clause-numbered : goal.shown_transitions-requires-clause-numbered
+shown_transitions-requires-clause-numbered g c = (c.in_ok-numbering.ensures.classes c.args.r c.requires.classes).numbered
+
 pub shown_transitions-requires-clause-whole : goal.shown_transitions-requires-clause-whole
-shown_transitions-requires-clause-whole g c = rw c.new-rows.ensures
-    (show_each_other (is g (goal.at.shown_transitions-requires-clause-whole g c).After-new-rows))
+shown_transitions-requires-clause-whole g c =
+    show_each_other (is g (goal.at.shown_transitions-requires-clause-whole g c).In_ok-numbering)
 
 less : (g : Over) (c : In_ok-shown g) → length c.in_ok-shown.shown ≤ length c.args.l.now.places
-less g c = let shown = rw c.new-rows.ensures at c.in_ok-shown.ensures.shown in
-    let reached = λ (s : ℕ). get_or c.args.numbering.now.reached.items s false in
-    omega (arith, shown.few, rows_few reached c.args.l.now.places)
+less g c = let reached = λ (s : ℕ). get_or c.in_ok-numbering.numbering.reached.items s false in
+    omega (arith, c.in_ok-shown.ensures.shown.few, rows_few reached c.args.l.now.places)
 
-counted : (g : Over) (c : After-len g) → c.len.result ≡ length c.args.numbering.now.classes.items
-counted g c = search (rules, c.args.numbering.now.classes.ok)
+counted : (g : Over) (c : After-len g) → c.len.result ≡ length c.in_ok-numbering.numbering.classes.items
+counted g c = search (rules, c.in_ok-numbering.numbering.classes.ok)
+
+pub overflow_cast-len : goal.overflow_cast-len
+overflow_cast-len g c = let few = (c.in_ok-numbering.ensures.classes c.args.r c.requires.classes).few in search rules
 
 pub with_labels_of-requires : goal.with_labels_of-requires
 with_labels_of-requires g c = let goals = goal.at.with_labels_of-requires g c in
-    let shown = rw c.new-rows.ensures at c.in_ok-shown.ensures.shown in
-    rw (counted g goals.After-len) (quotient_in_range (is g goals.After-new-rows) _ shown c.in_ok-shown.ensures.once
+    let shown = c.in_ok-shown.ensures in
+    rw (counted g goals.After-len) (quotient_in_range (is g goals.In_ok-numbering) _ shown.shown shown.once
     (less g goals.In_ok-shown))
 
 pub returns-clause-quotient : goal.returns-clause-quotient
 returns-clause-quotient g c = let goals = goal.at.returns-clause-quotient g c in
-    let shown = rw c.new-rows.ensures at c.in_ok-shown.ensures.shown in
-    IfOk-weaker c.with_labels_of.result _ _ (built (is g goals.After-new-rows) _ shown c.in_ok-shown.ensures.once)
+    let shown = c.in_ok-shown.ensures in
+    IfOk-weaker c.with_labels_of.result _ _ (built (is g goals.In_ok-numbering) _ shown.shown shown.once)
     (rw (counted g goals.After-len) at c.with_labels_of.ensures)
 
 pub returns-clause-fewer_transitions : goal.returns-clause-fewer_transitions

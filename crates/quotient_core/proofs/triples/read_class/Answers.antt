@@ -1,14 +1,8 @@
 use Rattle.std.proofs.Common.{◌∙◌, sym, arith}
-use Rattle.quotient_core.proofs.Showing.{next_below, read_few, read_all, read_over, fits, read_visits, read_next}
+use Rattle.quotient_core.proofs.Showing.{read_few, read_all, read_over, fits, read_visits, read_next}
 use Rattle.quotient_core.proofs.Showing.{read_enough}
 use Rattle.quotient_core.proofs.Visits.{visits_at_most, room_after}
 use Rattle.quotient_core.proofs.triples.read_class.Goals as goal
-
-pub is_reached-requires : goal.is_reached-requires
-is_reached-requires g c = next_below c.loop-k.invariant c.last_first.ensures.below c.last_first.ensures.turn
-
-pub read_row-requires-clause-state : goal.read_row-requires-clause-state
-read_row-requires-clause-state g c = next_below c.loop-k.invariant c.last_first.ensures.below c.last_first.ensures.turn
 
 pub loop-k-preserved-then-not-is_reached : goal.loop-k-preserved-then-not-is_reached
 loop-k-preserved-then-not-is_reached g c = read_over c.loop-k.invariant c.last_first.ensures.below

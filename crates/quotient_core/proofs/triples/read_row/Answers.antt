@@ -12,22 +12,23 @@ use Rattle.quotient_core.proofs.triples.read_row.Goals.{After-leaves_out}
 -- The row of a state is the list of its transitions. Consider the list of the quotient transitions that come from the
 -- transitions of the row before the place `k`. If the quotient does not leave out the transition at the place `k`, the
 -- quotient transition of this transition is appended to the list. Otherwise, the list stays the same.
-more : (g : Over) (c : After-leaves_out g) → let rows = c.args.rows.now in let row = row_of c.args.s rows.l.places in
-    let shown = λ (es : List Triple). filter (λ x. not (is_left_out rows.dropped x))
-    (map (between_numbers rows c.args.s) es) in
+more : (g : Over) (c : After-leaves_out g) → let n = c.args.numbering.now in let row = row_of c.args.s c.args.l.now.places in
+    let shown = λ (es : List Triple). filter (λ x. not (is_left_out n.dropped x)) (map (between_numbers n c.args.s) es) in
     shown (take (c.loop-k.k + 1 - c.row-start.result.0) row) ≡ shown (take (c.loop-k.k - c.row-start.result.0) row)
-    ++ cond (not c.leaves_out.result) (c.triple-triple.result ∷ []) []
-more g c = let rows = c.args.rows.now in
+    ++ cond (not c.leaves_out.result) ((c.number-number.result, c.edge-label.result.0, c.number.result) ∷ []) []
+more g c = let l = c.args.l.now in
     let range = c.loop-k.auto.k in
-    let inside = c.rows_follow.ensures.inside rows.l.places c.args.s _ _ c.loop-k.k c.row-start.ensures (omega arith)
+    let inside = c.rows_follow.ensures.inside l.places c.args.s _ _ c.loop-k.k c.row-start.ensures (omega arith)
     (omega arith) in
     rw (
       inside,
       map-append,
       filter-append,
       c.leaves_out.ensures,
-      c.triple-triple.ensures.triple,
       c.number-number.ensures,
+      c.number.ensures,
+      c.edge-label.ensures.label,
+      c.edge-label.ensures.target,
     ) refl
 
 pub loop-k-preserved-then-leaves_out : goal.loop-k-preserved-then-leaves_out
@@ -42,13 +43,13 @@ pub loop-k-preserved : goal.loop-k-preserved
 loop-k-preserved g c = let range = c.loop-k.auto.k in
     record {
       class = rw (more g (goal.at.loop-k-preserved g c).After-leaves_out, c.if-leaves_out.false, ← append_assoc)
-          (c.in_ok-push.ensures.items ∙ ap (λ xs. xs ++ c.triple-triple.result ∷ []) c.loop-k.invariant.class);
+          (c.in_ok-push.ensures.items ∙ ap (λ xs. xs ++ (c.number-number.result, c.edge-label.result.0, c.number.result) ∷ []) c.loop-k.invariant.class);
       visits = search rules;
     }
 
 pub returns-clause-whole : goal.returns-clause-whole
-returns-clause-whole g c = let shown = shown_by c.args.rows.now c.args.s in
-    let whole = take_all (c.loop-k.k - c.row-start.result.0) (row_of c.args.s c.args.rows.now.l.places)
+returns-clause-whole g c = let shown = shown_by c.args.l.now c.args.numbering.now c.args.s in
+    let whole = take_all (c.loop-k.k - c.row-start.result.0) (row_of c.args.s c.args.l.now.places)
     (omega (arith, c.row-start.ensures.count, c.loop-k-test.false)) in
     let made : length c.loop-k.class.items ≡ length c.args.class.now.items + length shown =
     rw whole at (ap length c.loop-k.invariant.class) ∙ length-append c.args.class.now.items shown in
@@ -56,6 +57,6 @@ returns-clause-whole g c = let shown = shown_by c.args.rows.now c.args.s in
 
 pub returns-clause-class : goal.returns-clause-class
 returns-clause-class g c =
-    let whole = take_all (c.loop-k.k - c.row-start.result.0) (row_of c.args.s c.args.rows.now.l.places)
+    let whole = take_all (c.loop-k.k - c.row-start.result.0) (row_of c.args.s c.args.l.now.places)
     (omega (arith, c.row-start.ensures.count, c.loop-k-test.false)) in
     rw whole at c.loop-k.invariant.class

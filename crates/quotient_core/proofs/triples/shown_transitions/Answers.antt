@@ -2,59 +2,44 @@ use Rattle.std.proofs.lemmas.Bool.Decides.{nat_tests}
 use Rattle.std.proofs.Common.{subst, ℕ, rules, ◌≡◌, ◌∙◌, ◌≤◌, ◌++◌, length, ap, arith}
 use Rattle.quotient_core.specs.Triples.{HasShown, is_member, is_reached}
 use Rattle.quotient_core.proofs.Showing.{is_below, below_next, shown_with, shown_tidy, tidied_once, once_next, rows_fit}
-use Rattle.quotient_core.proofs.Visits.{visits_then, visits_at_most, room_after, rows_part, rows_few}
+use Rattle.quotient_core.proofs.Visits.{visits_then, rows_part}
 use Rattle.quotient_core.proofs.triples.shown_transitions.Given.{Over}
 use Rattle.quotient_core.proofs.triples.shown_transitions.Goals as goal
 use Rattle.quotient_core.proofs.triples.shown_transitions.Goals.{After-edges}
-
-pub read_class-requires-clause-room : goal.read_class-requires-clause-room
-read_class-requires-clause-room g c =
-    room_after c.requires.room c.loop-number.invariant.visits (rows_fit c.args.rows.now c.loop-number.number)
-
-pub returns-in_err-read_class-clause-visits : goal.returns-in_err-read_class-clause-visits
-returns-in_err-read_class-clause-visits g c = visits_then c.loop-number.invariant.visits c.read_class.ensures.visits
-    (rows_fit c.args.rows.now c.loop-number.number)
-
-pub returns-in_err-add_class-clause-visits : goal.returns-in_err-add_class-clause-visits
-returns-in_err-add_class-clause-visits g c = visits_then c.loop-number.invariant.visits c.read_class.ensures.visits
-    (rows_fit c.args.rows.now c.loop-number.number)
 
 -- A quotient transition is a transition between quotient states. The list of the quotient transitions of a class is
 -- sorted, and its repeated elements are removed. Afterwards the list still has exactly the quotient transitions of the
 -- class.
 tidy : (g : Over) (c : After-edges g) →
-    HasShown c.args.rows.now (is_member c.args.rows.now c.loop-number.number) c.dedup.new.self.items
+    HasShown c.args.l.now c.args.numbering.now (is_member c.args.numbering.now c.loop-number.number)
+    c.dedup.new.self.items
 tidy g c = let short : length c.dedup.new.self.items ≤ length c.read_class.new.class.items = search rules in
     shown_tidy c.in_ok-read_class.ensures.class c.sort_unstable.ensures.permutation c.dedup.ensures.filtered short
 
 pub add_class-requires : goal.add_class-requires
 add_class-requires g c = let own = tidy g (goal.at.add_class-requires g c).After-edges in
-    let fit = rows_fit c.args.rows.now c.loop-number.number in
+    let fit = rows_fit c.args.l.now c.args.numbering.now c.loop-number.number in
     let few = c.loop-number.invariant.shown.few in
     record { room = omega (arith, c.deref.ensures.len, c.edges.ensures, own.few, few, fit) }
 
 pub loop-number-preserved : goal.loop-number-preserved
 loop-number-preserved g c = let own = tidy g (goal.at.loop-number-preserved g c).After-edges in
-    let rows = c.args.rows.now in
-    let n = c.loop-number.number in
+    let n = c.args.numbering.now in
+    let i = c.loop-number.number in
     let up = c.loop-number.invariant in
     let put = c.in_ok-add_class.ensures ∙ ap (λ xs. c.loop-number.shown ++ xs) c.deref.ensures.value in
     let once = tidied_once _ _ c.dedup.ensures.filtered c.sort_unstable.ensures.sorted in
     record {
-      shown = rw put (shown_with (below_next rows n) up.shown own);
-      once = rw put (once_next rows n _ _ up.shown own up.once once);
+      shown = rw put (shown_with (below_next n i) up.shown own);
+      once = rw put (once_next c.args.l.now n i _ _ up.shown own up.once once);
       visits = visits_then up.visits c.read_class.ensures.visits
-          (omega (arith, rows_part _ _ _ (below_next rows n) rows.l.places));
+          (omega (arith, rows_part _ _ _ (below_next n i) c.args.l.now.places));
     }
 
 pub returns-clause-shown : goal.returns-clause-shown
-returns-clause-shown g c = let rows = c.args.rows.now in
-    let end : c.loop-number.number ≡ length rows.n.classes.items =
-    omega (arith, c.loop-number-test.false, c.loop-number.auto.number-end, ap length c.classes-number-end.ensures) in
-    let all : (s : ℕ) → is_below rows c.loop-number.number s ≡ is_reached rows s =
-    λ s. grind (arith, nat_tests, end, c.invariants.ensures.numbered.below s) in
-    subst (λ p. HasShown rows p c.loop-number.shown) (λ i s. all s i) c.loop-number.invariant.shown
-
-pub returns-clause-visits : goal.returns-clause-visits
-returns-clause-visits g c = visits_at_most c.loop-number.invariant.visits
-    (rows_few (is_below c.args.rows.now c.loop-number.number) c.args.rows.now.l.places)
+returns-clause-shown g c = let n = c.args.numbering.now in
+    let end : c.loop-number.number ≡ length n.classes.items =
+    omega (arith, c.loop-number-test.false, c.loop-number.auto.number-end) in
+    let all : (s : ℕ) → is_below n c.loop-number.number s ≡ is_reached n s =
+    λ s. grind (arith, nat_tests, end, c.requires.numbered.below s) in
+    subst (λ p. HasShown c.args.l.now n p c.loop-number.shown) (λ i s. all s i) c.loop-number.invariant.shown

@@ -7,8 +7,8 @@ use Rattle.quotient_core.proofs.triples.shown_transitions.Given as goal
 
 abbrev pub invariant-loop-number : goal.invariant-loop-number
 invariant-loop-number g l = record {
-  shown : HasShown l.rows (is_below l.rows l.number) l.shown;
+  shown : HasShown l.l l.numbering (is_below l.numbering l.number) l.shown;
   once : AllPairs (λ x y. x ≢ y) l.shown;
-  visits : let read = rows_of (is_below l.rows l.number) l.rows.l.places in
+  visits : let read = rows_of (is_below l.numbering l.number) l.l.places in
       Costs (g.M.Meter.counted l.initial.m) (g.M.Meter.counted l.m) 0 0 (length read);
 }

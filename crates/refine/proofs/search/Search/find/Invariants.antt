@@ -1,4 +1,4 @@
-use Rattle.std.proofs.Common.{◌≡◌, ◌+◌, ◌-◌, length, take}
+use Rattle.std.proofs.Common.{◌≡◌, ◌+◌, ◌-◌, take}
 use Rattle.std.specs.List.{sum_by}
 use Rattle.refine.specs.Search.{FindsFrom}
 use Rattle.refine.proofs.Searching.{row_length}
@@ -7,7 +7,6 @@ use Rattle.refine.proofs.search.Search.find.Given as goal
 abbrev pub invariant-loop-i : goal.invariant-loop-i
 invariant-loop-i g l = record {
   search : FindsFrom l.lens l.s l.self l.i;
-  size : length l.self.marked ≡ length l.fn.self.marked;
   rounds : (g.M.Meter.counted l.m).rounds ≡ (g.M.Meter.counted l.fn.m).rounds;
   visits : (g.M.Meter.counted l.m).visits ≡ (g.M.Meter.counted l.fn.m).visits
       + sum_by (row_length l.lens.l.places) (take l.i l.self.states);

@@ -40,7 +40,6 @@ loop-k-preserved g c =
       row = went u c.args.s c.invariants.ensures.lts c.invariants.ensures.laws c.rows_are_steps.ensures.sources
           (c.rows_are_steps.ensures.steps u.l) c.inert_steps_stay.ensures.block c.loop-k.invariant.row
           (c.requires.found.led c.args.i c.requires.more) at from _ _ step c.in_ok-explore.ensures.takes;
-      size = c.explore.ensures.size ∙ c.loop-k.invariant.size;
       cost = search (rules, one_visit c.requires.visited k);
     }
 

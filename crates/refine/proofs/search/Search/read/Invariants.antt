@@ -1,4 +1,4 @@
-use Rattle.std.proofs.Common.{◌≡◌, ◌-◌, length}
+use Rattle.std.proofs.Common.{◌-◌}
 use Rattle.lts.specs.Meter.{Costs}
 use Rattle.refine.proofs.Searching.{ReadsRow}
 use Rattle.refine.proofs.search.Search.read.Given as goal
@@ -6,6 +6,5 @@ use Rattle.refine.proofs.search.Search.read.Given as goal
 abbrev pub invariant-loop-k : goal.invariant-loop-k
 invariant-loop-k g l = record {
   row : ReadsRow l.lens l.s l.initial.self l.i l.start l.k l.self;
-  size : length l.self.marked ≡ length l.initial.self.marked;
   cost : Costs (g.M.Meter.counted l.initial.m) (g.M.Meter.counted l.m) 0 (l.k - l.start) (l.k - l.start);
 }

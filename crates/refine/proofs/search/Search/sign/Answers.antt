@@ -5,14 +5,14 @@ use Rattle.refine_core.proofs.CallerLemmas.{none_visited}
 use Rattle.refine.proofs.Searching.{signed}
 use Rattle.refine.proofs.search.Search.sign.Goals as goal
 
-pub returns-in-Ok-clause-signature : goal.returns-in-Ok-clause-signature
-returns-in-Ok-clause-signature g c =
+pub returns-clause-signature : goal.returns-clause-signature
+returns-clause-signature g c =
     let u = c.new-lens.result in
     let zs = c.order.new.pairs.items in
     subst (λ u. IsSignature Branching u.l u.blocks c.args.s zs) c.new-lens.ensures
     (signed u c.args.s c.invariants.ensures.lts c.invariants.ensures.laws c.rows_are_steps.ensures.sources
     (c.rows_are_steps.ensures.steps u.l)
-    c.inert_steps_stay.ensures.block c.inert_steps_stay.ensures.kept c.find.new.self c.in-Ok.ensures.found zs
+    c.inert_steps_stay.ensures.block c.inert_steps_stay.ensures.kept c.find-found.new.self c.in_ok-found.ensures.found zs
     c.order.ensures.ascending
     (λ z. subst (λ xs. Contains zs z ↔ Contains xs z) (ap (λ f. f.pairs) c.self.view_is) (c.order.ensures.same z)))
 
