@@ -19,7 +19,7 @@ use Rattle.partition.specs.Blocks.{RoundBlocks, IsMember, InactiveHaveNone}
 use Rattle.inert.specs.Signed.{CachesBeside, SignsActive, IsSignature}
 use Rattle.refine_core.specs.Signatures.{Signed, HasNoSignatures, list_of}
 use Rattle.refine_core.specs.IndexState.{IsReadyToSign, AreAllActive, OthersKeepSignatures, SignsEach}
-use Rattle.refine_core.specs.Shown.{Was, IsAsBefore, IsSplitSignature, WasSplit}
+use Rattle.refine_core.specs.Shown.{Was, IsAsBefore, IsSplitSignature, Follows}
 use Rattle.refine_core.specs.Cached.{IsListOf}
 use Rattle.refine_core.proofs.Showing.{Labelled, equal_represented, label_id_of}
 use Rattle.refine_core.proofs.ActiveStates.{StepsAreRow, no_step}
@@ -32,7 +32,6 @@ pub ready_discarded : (rel : Relation) (l : Grouped) (r : Signed) → length r.b
     → (rel ≡ Branching → HasNoSignatures r.blocks.block_ids r.signatures r.cached)
     → (rel ≡ Strong → r.blocks.first_new ≡ 0) → OthersKeepSignatures rel l None r.blocks → IsReadyToSign rel l None r
 ready_discarded rel l r size discarded first others = record {
-  split = tt;
   others = others;
   follows = first;
   cached = λ branching. let discarded = discarded branching in record {
@@ -45,14 +44,15 @@ ready_discarded rel l r size discarded first others = record {
   empty = λ branching none. (discarded branching).empty;
 }
 
--- Suppose that the blocks result from splitting the blocks of the last round (`WasSplit`), and that the branching
+-- Suppose that the blocks result from splitting the blocks of the last round (`Follows`), and that the branching
 -- signature of a state is empty. Then the branching signature of this state in the last round was empty, too.
-pub empty_was : (l : Grouped) → IsSystem (system_of l) → (old : Option (List ℕ)) (of : List ℕ)
-    → WasSplit Branching l old of → (s : ℕ) → s < l.states → HasEmptySignature (system_of l) (slice_index of) s
+pub empty_was : (l : Grouped) → IsSystem (system_of l) → (old : Option (List ℕ)) (of : List ℕ) (low : ℕ)
+    → Follows Branching l old of low → (s : ℕ) → s < l.states → HasEmptySignature (system_of l) (slice_index of) s
     → (a : List ℕ) (b : ℕ) → ¬ Was Branching l old s a b
-empty_was l sys None of was s ls none = λ a b h. h
-empty_was l sys (Some old) of was s ls none =
-    empty_before (system_of l) sys (slice_index old) (slice_index of) (λ s t ls lt e. ((was s t ls lt).0 e).0) s ls none
+empty_was l sys None of low was s ls none = λ a b h. h
+empty_was l sys (Some old) of low was s ls none =
+    empty_before (system_of l) sys (slice_index old) (slice_index of)
+    (λ s t ls lt e. ((was.split s t ls lt).0 e).0) s ls none
 
 -- Suppose that a state has no transition. Then its signature in the last round was empty, whichever blocks the last
 -- round had.
@@ -146,7 +146,7 @@ module _ (l : Grouped) (labelled : Labelled l) (sys : IsSystem (system_of l)) (o
           let (k, number) = label_id_of l labelled Branching (Some of) s a b can in
           let c = ((signs.signed s one).exactly k b).1 (number.below, rw number.text can) in
           omega (arith, (rw nil at c).1) in
-          (λ can. absurd (shows a b can), λ can. absurd (empty_was l sys old of ready.split s h shows a b can))
+          (λ can. absurd (shows a b can), λ can. absurd (empty_was l sys old of _ ready.follows s h shows a b can))
 
       -- The split signature of a state is empty if its signature has not changed since the last round, and otherwise it
       -- is the new signature. For the active state s, the list `signature_ids` has the ID of the split signature of s
@@ -173,7 +173,6 @@ module _ (l : Grouped) (labelled : Labelled l) (sys : IsSystem (system_of l)) (o
     pub branching_signs : SignsEach Branching l old
         (record r { signatures = signatures; cached = cached; signature_ids = signature_ids })
     branching_signs = let keeps = ready.cached refl in record {
-      split = ready.split;
       each = λ s h. let given = λ (one : IsMember active s). ⊎_map (λ x. x) (split_id s h one) (keeps.each s h) in
           grind (arith, ready.others s h, none s, given, have, are.first);
       first = λ none s one. grind

@@ -14,7 +14,7 @@ use Rattle.theory.specs.declared.relation.Relation.TheVariants.{Strong}
 use Rattle.lts.specs.Lts.{Grouped, Triple, IsTriple, IsLts, source_of, target_of, place_at, system_of}
 use Rattle.partition.specs.Splitting.{IsSingleton}
 use Rattle.partition.specs.Blocks.{RoundBlocks, IsMember}
-use Rattle.refine_core.specs.Index.{SearchIsComplete, IsFoundOrSingleton, reach_of}
+use Rattle.refine_core.specs.Index.{SearchIsComplete, IsFoundOrSingleton}
 use Rattle.refine_core.proofs.Showing.{IsUnaffected}
 use Rattle.refine_core.proofs.ActiveStates.{step_at}
 
@@ -28,7 +28,7 @@ AreUnaffected l p = (s : ℕ) → s < l.states → IsMember p.active s ⊎ IsSin
 -- that these states are the active states, which the round processes. Then each state is active, is in a singleton
 -- block, or has no transition to a block that the last split has made.
 module _ (l : Grouped) (lts : IsLts l) (q : RoundBlocks) (size : length q.block_ids ≡ l.states)
-    (finds : SearchIsComplete (reach_of Strong) l q q.active) where
+    (finds : SearchIsComplete Strong l q q.active) where
   -- Returns whether the transition e leads from the state s to a new block. A block is new if its ID is at least
   -- `first_new`.
   abbrev shows_new : ℕ → Triple → Bool

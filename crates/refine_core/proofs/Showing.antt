@@ -18,7 +18,7 @@ use Rattle.partition.specs.Splitting.{IsSingleton}
 use Rattle.partition.specs.Blocks.{IsMember, InactiveHaveNone}
 use Rattle.inert.specs.Signed.{IsSignature}
 use Rattle.refine_core.specs.Cached.{IsListOf}
-use Rattle.refine_core.specs.Shown.{Was, IsAsBefore, IsSplitSignature, IsStrongSplitSignature, Follows, WasSplit}
+use Rattle.refine_core.specs.Shown.{Was, IsAsBefore, IsSplitSignature, IsStrongSplitSignature, Follows}
 use Rattle.refine_core.specs.Signatures.{Signed, list_of}
 use Rattle.refine_core.specs.IndexState.{IsReadyToSign, SignsEach}
 
@@ -65,19 +65,19 @@ equal_lists rel l labelled blocks s t xs ys of_s of_t =
     equal_represented l _ _ xs ys (label_id_of l labelled rel (Some blocks) s)
     (label_id_of l labelled rel (Some blocks) t) (of_s.ascending, of_s.exactly) (of_t.ascending, of_t.exactly)
 
--- Suppose that the blocks result from splitting the blocks of the last round (`WasSplit`), and that two states share a
+-- Suppose that the blocks result from splitting the blocks of the last round (`Follows`), and that two states share a
 -- block. Then the two states had equal signatures in the last round. If no round has run yet, all signatures in the
 -- last round are taken to be empty.
-was_alike : (rel : Relation) (l : Grouped) (old : Option (List ℕ)) (of : List ℕ) → WasSplit rel l old of
+was_alike : (rel : Relation) (l : Grouped) (old : Option (List ℕ)) (of : List ℕ) (low : ℕ) → Follows rel l old of low
     → (s t : ℕ) → s < l.states → t < l.states → slice_index of s ≡ slice_index of t
     → (a : List ℕ) (b : ℕ) → Was rel l old s a b ↔ Was rel l old t a b
-was_alike rel l None of was s t ls lt one a b = (λ h. h, λ h. h)
-was_alike rel l (Some old) of was s t ls lt one a b = ((was s t ls lt).0 one).1 a b
+was_alike rel l None of low was s t ls lt one a b = (λ h. h, λ h. h)
+was_alike rel l (Some old) of low was s t ls lt one a b = ((was.split s t ls lt).0 one).1 a b
 
 -- In the following lemmas, the list `shown s` stands for the split signature of the state s. The split signature is
 -- empty if the signature of s has not changed since the last round, and otherwise it is the new signature.
-module _ (rel : Relation) (l : Grouped) (labelled : Labelled l) (old : Option (List ℕ)) (of : List ℕ)
-    (size : length of ≡ l.states) (was : WasSplit rel l old of) (shown : ℕ → List (ℕ × ℕ)) where
+module _ (rel : Relation) (l : Grouped) (labelled : Labelled l) (old : Option (List ℕ)) (of : List ℕ) (low : ℕ)
+    (size : length of ≡ l.states) (was : Follows rel l old of low) (shown : ℕ → List (ℕ × ℕ)) where
   -- `Each` holds if the state s is in a singleton block (a block with one state), or if the list `shown s` is the split
   -- signature of s. The split signature is empty if the signature of s has not changed since the last round, and
   -- otherwise it is the new signature.
@@ -97,7 +97,7 @@ module _ (rel : Relation) (l : Grouped) (labelled : Labelled l) (old : Option (L
   differ : (s t : ℕ) → s < l.states → t < l.states → slice_index of s ≡ slice_index of t → IsAsBefore rel l old of s
       → ¬ IsAsBefore rel l old of t → ¬ SameSignature rel (system_of l) (slice_index of) s t
   differ s t ls lt one p q same =
-      q (λ a b. grind (arith, p a b, same a b, was_alike rel l old of was s t ls lt one a b))
+      q (λ a b. grind (arith, p a b, same a b, was_alike rel l old of low was s t ls lt one a b))
 
   -- The split signature of a state is empty if its signature has not changed since the last round, and otherwise it is
   -- the new signature. Suppose that the states s and t share a block. Then their split signatures are equal if and only
@@ -106,7 +106,7 @@ module _ (rel : Relation) (l : Grouped) (labelled : Labelled l) (old : Option (L
   told s t ls lt one (inl only) y = one_state s t (sym (only t (omega (arith, lt, size)) (sym one)))
   told s t ls lt one (inr x) (inl only) = one_state s t (only s (omega (arith, ls, size)) one)
   told s t ls lt one (inr (inl p)) (inr (inl q)) = (
-    λ h a b. grind (arith, p.1 a b, q.1 a b, was_alike rel l old of was s t ls lt one a b),
+    λ h a b. grind (arith, p.1 a b, q.1 a b, was_alike rel l old of low was s t ls lt one a b),
     λ h. p.0 ∙ sym q.0,
   )
   told s t ls lt one (inr (inl p)) (inr (inr q)) = grind (arith, p.0, q.0, differ s t ls lt one p.1 q.1)
@@ -125,13 +125,6 @@ module _ (rel : Relation) (l : Grouped) (labelled : Labelled l) (old : Option (L
       let tells = λ (one : slice_index of s ≡ slice_index of t). told s t ls lt one (each s ls) (each t lt) in
       grind (arith, split s t ls lt, tells)
 
--- Suppose that `Follows` holds for the blocks `of` of this round and the blocks `old` of the last round. Then
--- `WasSplit` holds for them, too: the blocks `of` result from splitting the blocks `old` by signatures.
-pub follows_split : (rel : Relation) (l : Grouped) (old : Option (List ℕ)) (of : List ℕ) (low : ℕ)
-    → Follows rel l old of low → WasSplit rel l old of
-follows_split rel l None of low follows = tt
-follows_split rel l (Some old) of low follows = follows.split
-
 -- `IsUnaffected` holds if each transition of the state s leads to an old block, which is a block with an ID less than
 -- `first_new`. All other blocks are new: the last split has made them.
 abbrev pub IsUnaffected : System → (ℕ → ℕ) → ℕ → ℕ → Type 0
@@ -143,7 +136,7 @@ pub unaffected_as_before : (l : Grouped) → IsSystem (system_of l) → (old : O
     → Follows Strong l old of low → (s : ℕ) → IsUnaffected (system_of l) (slice_index of) low s
     → IsAsBefore Strong l old of s
 unaffected_as_before l sys None of low follows s still a b =
-    (λ h. absurd (omega (arith, still a h.0 h.1, follows)), λ none. absurd none)
+    (λ h. absurd (omega (arith, still a h.0 h.1, follows refl)), λ none. absurd none)
 unaffected_as_before l sys (Some old) of low follows s still a b =
     let same = λ (t : ℕ) (step : Step (system_of l) s a t). follows.stays t
     (step_below (system_of l) sys s a t step).1 (still a t step) in
@@ -170,8 +163,7 @@ pub strong_signs : (l : Grouped) (old : Option (List ℕ)) (r : Signed) → IsRe
     (list_of signatures signature_ids s))
     → SignsEach Strong l old (record r { signatures = signatures; signature_ids = signature_ids })
 strong_signs l old r ready signatures signature_ids first size none put =
-    let given = λ (s : ℕ) (one : IsMember r.blocks.active s). put s one old (ready.follows refl) in record {
-      split = ready.split;
+    let given = λ (s : ℕ) (one : IsMember r.blocks.active s). put s one old ready.follows in record {
       each = λ s ls. grind (arith, ready.others s ls, none s, given s, size, first);
       first = λ is s one. elim (rw is at (given s one)) [
         | inl same ↦ rw same.0 (record {

@@ -8,7 +8,7 @@ use Rattle.std.specs.List.{All, IsDistinct}
 use Rattle.std.specs.Io.{StartsWith}
 use Rattle.theory.specs.System.{internal}
 use Rattle.theory.specs.declared.relation.Relation.{Relation}
-use Rattle.theory.specs.declared.relation.Relation.TheVariants.{Strong, Branching}
+use Rattle.theory.specs.declared.relation.Relation.TheVariants.{Branching}
 use Rattle.lts.specs.Labels.{text_of}
 use Rattle.lts.specs.Lts.{Grouped, Triple, source_of, label_of, target_of, place_at}
 use Rattle.lts.specs.Incoming.{Entries, IsIndex}
@@ -17,49 +17,21 @@ use Rattle.lts.specs.Meter.{Counts, HasRoomFor}
 use Rattle.partition.specs.Splitting.{IsSingleton}
 use Rattle.partition.specs.Blocks.{RoundBlocks, AreActive, IsMember}
 use Rattle.refine_core.specs.declared.predecessors.Affected.{Affected}
-use Rattle.refine_core.specs.declared.predecessors.Reach.{Reach}
-use Rattle.refine_core.specs.declared.predecessors.Reach.TheVariants.{Before, Back}
-
--- `SearchIndex` has two fields. The field `index` is the predecessor index, which has the transitions that lead to each
--- state. The field `reach` says how far a search in this index goes back along transitions.
-pub record SearchIndex : Type 0 where
-  pub index : Entries
-  pub reach : Reach
-
--- Returns true if a search goes back along inert transitions. In this case, the predecessor index stores the internal
--- transitions to each state separately, as the internal group of the state.
-abbrev pub is_separate : Reach → Bool
-is_separate Before = false
-is_separate Back = true
-
--- Returns how far a search goes back along transitions. For strong bisimilarity, the search finds only the sources of
--- the transitions into new blocks, which are the blocks that the last split has made. For branching bisimilarity, the
--- search also goes back along inert transitions.
-abbrev pub reach_of : Relation → Reach
-reach_of Strong = Before
-reach_of Branching = Back
 
 -- `IsInner` holds for the transition at the place p, which is an index in the list of all transitions, under two
--- conditions. First, the source and the target of the transition are in the same block. Second, a search goes back
--- along inert transitions (`reach` is `Back`).
-abbrev pub IsInner : Reach → Grouped → List ℕ → ℕ → Type 0
-IsInner reach l of p = (reach ≡ Back)
+-- conditions. First, the source and the target of the transition are in the same block. Second, the relation is
+-- branching bisimilarity, for which a search goes back along inert transitions.
+abbrev pub IsInner : Relation → Grouped → List ℕ → ℕ → Type 0
+IsInner rel l of p = (rel ≡ Branching)
     × (slice_index of (source_of (place_at l.places p)) ≡ slice_index of (target_of (place_at l.places p)))
 
--- `IsSearchIndex` holds if `e` has a predecessor index of the system `l`, which has, for each state, the transitions
--- that lead to this state. If a search in this index goes back along inert transitions, the index must store the inert
--- transitions to each state separately, as the internal group of the state. The internal group may also have internal
--- transitions that are not inert.
-abbrev pub IsSearchIndex : Grouped → List ℕ → SearchIndex → Type 0
-IsSearchIndex l of e = IsIndex l (IsInner e.reach l of) e.index
-
--- `HasIndex` holds under three conditions. First, the list `of` has the block ID of each state of the system `l`.
--- Second, `e` contains a predecessor index of this system (`IsSearchIndex`). Third, the field `reach` of `e` is equal
--- to the argument `reach`, which says how far a search in this index goes back along transitions.
-pub record HasIndex (reach : Reach) (l : Grouped) (of : List ℕ) (e : SearchIndex) : Type 0 where
+-- `HasIndex` holds under two conditions. First, the list `of` has the block ID of each state of the system `l`. Second,
+-- x is a predecessor index of this system, which has, for each state, the transitions that lead to this state. For
+-- branching bisimilarity, the index must store the inert transitions to each state separately, as the internal group of
+-- the state. The internal group may also have internal transitions that are not inert.
+pub record HasIndex (rel : Relation) (l : Grouped) (of : List ℕ) (x : Entries) : Type 0 where
   pub states : length of ≡ l.states
-  pub index : IsSearchIndex l of e
-  pub reach_is : e.reach ≡ reach
+  pub index : IsIndex l (IsInner rel l of) x
 
 -- `IsFoundOrSingleton` holds if the state s is in the list `found` of the states that a search has found, or if s is in
 -- a singleton block (a block with one state).
@@ -83,27 +55,27 @@ FindsSources inert l of found t = (p : ℕ) → p < length l.places → target_o
 
 -- `FindsNew` holds if a search has found all states that it has to find for the state t of a new block. A new block is
 -- a block that the last split has made. The search has to find the sources of all transitions to t. If the search goes
--- back along inert transitions (`reach` is `Back`), it has to find t itself, too. States in singleton blocks (blocks
--- with one state) need not be found.
-abbrev pub FindsNew : Reach → Grouped → List ℕ → List ℕ → ℕ → Type 0
-FindsNew reach l of found t = FindsSources false l of found t × (reach ≡ Back → IsFoundOrSingleton of found t)
+-- back along inert transitions, which it does for branching bisimilarity, it has to find t itself, too. States in
+-- singleton blocks (blocks with one state) need not be found.
+abbrev pub FindsNew : Relation → Grouped → List ℕ → List ℕ → ℕ → Type 0
+FindsNew rel l of found t = FindsSources false l of found t × (rel ≡ Branching → IsFoundOrSingleton of found t)
 
 -- `SearchIsComplete` holds if a search has found all states that it has to find, and these states are in the list
 -- `found`. A block is new if the last split has made it, and otherwise it is old. For each state t of a new block, the
--- search has to find the sources of all transitions to t. If `reach` is `Back`, the search has to find more states:
--- each state of a new block, and, for each found state t of an old block, the sources of the inert transitions to t.
--- States in singleton blocks (blocks with one state) need not be found.
-pub record SearchIsComplete (reach : Reach) (l : Grouped) (p : RoundBlocks) (found : List ℕ) : Type 0 where
+-- search has to find the sources of all transitions to t. For branching bisimilarity, the search has to find more
+-- states: each state of a new block, and, for each found state t of an old block, the sources of the inert transitions
+-- to t. States in singleton blocks (blocks with one state) need not be found.
+pub record SearchIsComplete (rel : Relation) (l : Grouped) (p : RoundBlocks) (found : List ℕ) : Type 0 where
   pub new : (t : ℕ) → t < length p.block_ids → p.first_new ≤ slice_index p.block_ids t
-      → FindsNew reach l p.block_ids found t
-  pub back : reach ≡ Back → (t : ℕ) → IsMember found t → slice_index p.block_ids t < p.first_new
+      → FindsNew rel l p.block_ids found t
+  pub back : rel ≡ Branching → (t : ℕ) → IsMember found t → slice_index p.block_ids t < p.first_new
       → FindsSources true l p.block_ids found t
 
 -- `AreFound` holds under two conditions. First, the list `found` contains all states that a search has to find
 -- (`SearchIsComplete`). Second, the states in this list are in strictly ascending order.
-pub record AreFound (reach : Reach) (l : Grouped) (p : RoundBlocks) (found : List ℕ) : Type 0 where
+pub record AreFound (rel : Relation) (l : Grouped) (p : RoundBlocks) (found : List ℕ) : Type 0 where
   pub ascending : AreActive l.states found
-  pub complete : SearchIsComplete reach l p found
+  pub complete : SearchIsComplete rel l p found
 
 -- Returns, for each state, a range of entries of the predecessor index `x`. Each entry in the range of a state belongs
 -- to a transition to this state. If the first argument is false, the range of a state has the entries of all
@@ -159,15 +131,15 @@ pub record MarksFound (states : ℕ) (at : Affected) : Type 0 where
   pub marked : AreMarked at.marks.items at.states.items
 
 -- `SearchIsOn` holds while a search is in progress. The record `at` has the predecessor index, the marks of the states,
--- and the states that were found so far. The predecessor index must be correct (`IsSearchIndex`), and exactly the found
+-- and the states that were found so far. The predecessor index must be correct (`IsIndex`), and exactly the found
 -- states must be marked. The list `xs` must have the places (indices) of the transitions that were visited so far. For
 -- each of them, the meter must have counted one visit (read of a transition). When the search began, the meter must
 -- have had room for one visit of each transition. The record `start` has the counts of the meter when the search began,
 -- and `now` has its present counts.
-pub record SearchIsOn (l : Grouped) (of : List ℕ) (reach : Reach) (start now : Counts) (at : Affected) (xs : List ℕ) :
+pub record SearchIsOn (l : Grouped) (of : List ℕ) (rel : Relation) (start now : Counts) (at : Affected) (xs : List ℕ) :
     Type 0 where
   pub blocks : length of ≡ l.states
-  pub index : IsSearchIndex l of (record { index = at.incoming; reach = reach })
+  pub index : IsIndex l (IsInner rel l of) at.incoming
   pub marked : MarksFound (length of) at
   pub visited : HasVisited l.places start now xs
   pub room : HasRoomFor start 0 (length l.places)

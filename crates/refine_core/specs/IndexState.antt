@@ -4,16 +4,15 @@
 -- need not be processed.
 use Rattle.std.specs.Prelude.{◌≡◌, ◌⊎◌, ℕ, ◌<◌, List, [], ◌∷◌, length, slice_index, Option, None, Some, IfSome}
 use Rattle.theory.specs.declared.relation.Relation.{Relation}
-use Rattle.theory.specs.declared.relation.Relation.TheVariants.{Strong, Branching}
+use Rattle.theory.specs.declared.relation.Relation.TheVariants.{Branching}
 use Rattle.lts.specs.Lts.{Grouped, row_of}
 use Rattle.partition.specs.Splitting.{IsSingleton}
 use Rattle.partition.specs.Blocks.{RoundBlocks, IsMember}
 use Rattle.inert.specs.Signed.{IsSignature}
 use Rattle.refine_core.specs.Signatures.{Signed, list_of, HasNoSignatures}
-use Rattle.refine_core.specs.Shown.{Follows, WasSplit, IsAsBefore, IsSplitSignature}
+use Rattle.refine_core.specs.Shown.{Follows, IsAsBefore, IsSplitSignature}
 use Rattle.refine_core.specs.Cached.{CachesIds}
-use Rattle.refine_core.specs.Index.{HasIndex, SearchIsComplete, reach_of}
-use Rattle.refine_core.specs.declared.predecessors.Reach.{Reach}
+use Rattle.refine_core.specs.Index.{HasIndex, SearchIsComplete}
 
 -- `AreAllActive` holds if each state is active (processed by the round), is in a singleton block (a block with one
 -- state), or has no transition. The list `blocks` has the block ID of each state, and the list `active` has the active
@@ -31,62 +30,54 @@ OthersKeepSignatures rel l old p = (s : ℕ) → s < l.states → IsMember p.act
 
 -- `Awaits` holds if r, the data of a round (`Signed`), is ready for a new round. The field `old` has the block IDs in
 -- the last round, or is `None` if no round has run yet. The blocks of r must result from splitting the blocks of the
--- last round (`Follows`). If no round has run yet, all blocks must count as new. If there is no predecessor index, each
--- state must be active (processed by the round), be in a singleton block, or have no transition. If there is a
--- predecessor index, it must be an index of the system `l` (`HasIndex`), and a search in this index must go back along
--- transitions as far as the relation `rel` requires (`reach_of`). In this case, a round must have run before, and for
--- branching bisimilarity, the signatures of that round must be cached (`CachesIds`).
+-- last round (`Follows`). If no round has run yet, all blocks must count as new for strong bisimilarity. If there is no
+-- predecessor index, each state must be active (processed by the round), be in a singleton block, or have no
+-- transition. If there is a predecessor index, it must be an index of the system `l` (`HasIndex`). In this case, a
+-- round must have run before, and for branching bisimilarity, the signatures of that round must be cached
+-- (`CachesIds`).
 pub record Awaits (rel : Relation) (l : Grouped) (r : Signed) : Type 0 where
   pub states : length r.blocks.block_ids ≡ l.states
   pub old : Option (List ℕ)
   pub follows : Follows rel l old r.blocks.block_ids r.blocks.first_new
   pub all : r.index ≡ None → AreAllActive l r.blocks.block_ids r.blocks.active
-  pub index : IfSome r.index (HasIndex (reach_of rel) l r.blocks.block_ids)
+  pub index : IfSome r.index (HasIndex rel l r.blocks.block_ids)
   pub later : ¬ (r.index ≡ None) → ¬ (old ≡ None)
       × (rel ≡ Branching → CachesIds l r.blocks.block_ids r.signatures r.cached old)
 
 -- `IsReadyToSign` holds if r, the data of a round (`Signed`), is ready for computing the signatures of the active
 -- states, which are the states that the round processes. The argument `old` has the block IDs in the last round, and
--- the blocks of r must result from splitting these blocks (`WasSplit`). For strong bisimilarity, they must also satisfy
--- `Follows`. Each state that is neither active nor in a singleton block must have the same signature as in the last
--- round. For branching bisimilarity, the signatures of the last round must be cached. If `old` is `None`, no round has
--- run yet, or all signatures have been discarded since the last round. Then the signature of each state in the last
--- round is taken to be empty. For branching bisimilarity, the cached signature of each state must then be empty, too.
+-- the blocks of r must result from splitting these blocks (`Follows`). Each state that is neither active nor in a
+-- singleton block must have the same signature as in the last round. For branching bisimilarity, the signatures of the
+-- last round must be cached. If `old` is `None`, no round has run yet, or all signatures have been discarded since the
+-- last round. Then the signature of each state in the last round is taken to be empty. For branching bisimilarity, the
+-- cached signature of each state must then be empty, too.
 pub record IsReadyToSign (rel : Relation) (l : Grouped) (old : Option (List ℕ)) (r : Signed) : Type 0 where
-  pub split : WasSplit rel l old r.blocks.block_ids
   pub others : OthersKeepSignatures rel l old r.blocks
-  pub follows : rel ≡ Strong → Follows rel l old r.blocks.block_ids r.blocks.first_new
+  pub follows : Follows rel l old r.blocks.block_ids r.blocks.first_new
   pub cached : rel ≡ Branching → CachesIds l r.blocks.block_ids r.signatures r.cached old
   pub empty : rel ≡ Branching → old ≡ None → (s : ℕ) → slice_index r.cached s ≡ 0
 
--- `IsInRound` is about r, the data of a round (`Signed`) that has begun. The record p has the blocks and the active
--- states with which the round started. The blocks of r must be the same as in p, but other states may be active
--- (processed by the round). If there is no predecessor index, each state must be active, be in a singleton block, or
--- have no transition. If there is a predecessor index, it must be an index of the system `l` (`HasIndex`). The field
--- `old` has the block IDs in the last round. The argument `Stage` is the condition that r must satisfy at the present
--- stage of the round, such as `IsReadyToSign` or `SignsEach`.
-pub record IsInRound (Stage : Relation → Grouped → Option (List ℕ) → Signed → Type 0) (rel : Relation) (l : Grouped)
-    (p : RoundBlocks) (r : Signed) : Type 0 where
+-- `IsBegun` holds if r, the data of a round (`Signed`), is ready for computing the signatures of the active states
+-- (`IsReadyToSign`). The record p has the blocks and the active states with which the round started. The blocks of r
+-- must be the same as in p, but other states may be active (processed by the round). If there is no predecessor index,
+-- each state must be active, be in a singleton block, or have no transition. If there is a predecessor index, it must
+-- be an index of the system `l` (`HasIndex`). The field `old` has the block IDs in the last round.
+pub record IsBegun (rel : Relation) (l : Grouped) (p : RoundBlocks) (r : Signed) : Type 0 where
   pub old : Option (List ℕ)
   pub blocks : r.blocks ≡ record p { active = r.blocks.active }
   pub all : r.index ≡ None → AreAllActive l r.blocks.block_ids r.blocks.active
-  pub index : IfSome r.index (HasIndex (reach_of rel) l r.blocks.block_ids)
-  pub stage : Stage rel l old r
-
--- `IsBegun` holds if a round that started with the blocks `p` (`IsInRound`) is ready for computing the signatures of
--- its active states (`IsReadyToSign`).
-abbrev pub IsBegun : Relation → Grouped → RoundBlocks → Signed → Type 0
-IsBegun rel l p r = IsInRound IsReadyToSign rel l p r
+  pub index : IfSome r.index (HasIndex rel l r.blocks.block_ids)
+  pub ready : IsReadyToSign rel l old r
 
 -- `MayBuildIndex` compares the data p of a round with its data r after a step that may build the predecessor index. The
 -- step must not have changed the blocks and the cached signature IDs. If only the empty signature was interned before
 -- the step, then only the empty signature may be interned afterwards. If there is an index in r, it must be an index of
--- the system `l`, and a search in it must go back along transitions as far as `reach` says (`HasIndex`).
-pub record MayBuildIndex (l : Grouped) (reach : Reach) (p r : Signed) : Type 0 where
+-- the system `l` (`HasIndex`).
+pub record MayBuildIndex (rel : Relation) (l : Grouped) (p r : Signed) : Type 0 where
   pub blocks : r.blocks ≡ p.blocks
   pub cached : r.cached ≡ p.cached
   pub only : p.signatures ≡ [] ∷ [] → r.signatures ≡ [] ∷ []
-  pub index : IfSome r.index (HasIndex reach l r.blocks.block_ids)
+  pub index : IfSome r.index (HasIndex rel l r.blocks.block_ids)
 
 -- `Restarts` holds if a round processes all states again, without any signatures of earlier rounds. The data of the
 -- round is p before the step that starts again, and r afterwards. This step must not have changed the blocks, the
@@ -103,11 +94,11 @@ pub record Restarts (l : Grouped) (p r : Signed) : Type 0 where
 -- and r after the search. There must still be an index of the system `l` (`HasIndex`). The active states of r, which
 -- are the states that the round processes, must include all states that the search has to find (`SearchIsComplete`).
 -- The search must not have changed the blocks, the interned signatures, and the cached signature IDs.
-pub record HasSearched (reach : Reach) (l : Grouped) (p r : Signed) : Type 0 where
+pub record HasSearched (rel : Relation) (l : Grouped) (p r : Signed) : Type 0 where
   pub blocks : r.blocks ≡ record p.blocks { active = r.blocks.active }
   pub some : ¬ (r.index ≡ None)
-  pub index : IfSome r.index (HasIndex reach l r.blocks.block_ids)
-  pub found : SearchIsComplete reach l r.blocks r.blocks.active
+  pub index : IfSome r.index (HasIndex rel l r.blocks.block_ids)
+  pub found : SearchIsComplete rel l r.blocks r.blocks.active
   pub signatures : r.signatures ≡ p.signatures
   pub cached : r.cached ≡ p.cached
 
@@ -115,11 +106,10 @@ pub record HasSearched (reach : Reach) (l : Grouped) (p r : Signed) : Type 0 whe
 -- processes. The split signature of a state is empty if its signature has not changed since the last round, and
 -- otherwise it is the new signature. For each state that is not in a singleton block, `signature_ids` must have the ID
 -- of its split signature (`IsSplitSignature`). For branching bisimilarity, the new signatures must be cached for the
--- next round (`CachesIds`). The argument `old` has the block IDs in the last round, and the blocks of r must result
--- from splitting these blocks (`WasSplit`). If `old` is `None`, no round has run yet, or all signatures have been
--- discarded since the last round. For each active state, `signature_ids` must then have the ID of its signature.
+-- next round (`CachesIds`). The argument `old` has the block IDs in the last round. If `old` is `None`, no round has
+-- run yet, or all signatures have been discarded since the last round. For each active state, `signature_ids` must then
+-- have the ID of its signature.
 pub record SignsEach (rel : Relation) (l : Grouped) (old : Option (List ℕ)) (r : Signed) : Type 0 where
-  pub split : WasSplit rel l old r.blocks.block_ids
   pub each : (s : ℕ) → s < l.states → IsSingleton r.blocks.block_ids s
       ⊎ IsSplitSignature rel l old r.blocks.block_ids s (list_of r.signatures r.signature_ids s)
   pub first : old ≡ None → (s : ℕ) → IsMember r.blocks.active s
@@ -134,8 +124,3 @@ pub record SignsRound (rel : Relation) (l : Grouped) (p r : Signed) : Type 0 whe
   pub blocks : r.blocks ≡ p.blocks
   pub index : r.index ≡ p.index
   pub signs : (old : Option (List ℕ)) → IsReadyToSign rel l old p → SignsEach rel l old r
-
--- `IsSignedRound` holds if a round that started with the blocks `p` (`IsInRound`) has computed the signatures of its
--- active states (`SignsEach`).
-abbrev pub IsSignedRound : Relation → Grouped → RoundBlocks → Signed → Type 0
-IsSignedRound rel l p r = IsInRound SignsEach rel l p r

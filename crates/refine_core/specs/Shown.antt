@@ -41,16 +41,11 @@ pub record IsLastSplit (rel : Relation) (l : Grouped) (old of : List ℕ) (first
   pub stays : KeepsBlockIds (system_of l) (slice_index old) (slice_index of) first_new
 
 -- `Follows` holds if the blocks `of` result from splitting the blocks `old` of the last round (`IsLastSplit`). If `old`
--- is `None`, no round has run yet. In this case, `first_new` must be 0, so that all blocks count as new.
+-- is `None`, no round has run yet, or all signatures have been discarded since the last round. In this case,
+-- `first_new` must be 0 for strong bisimilarity, so that all blocks count as new.
 abbrev pub Follows : Relation → Grouped → Option (List ℕ) → List ℕ → ℕ → Type 0
-Follows rel l None of first_new = first_new ≡ 0
+Follows rel l None of first_new = rel ≡ Strong → first_new ≡ 0
 Follows rel l (Some old) of first_new = IsLastSplit rel l old of first_new
-
--- `WasSplit` holds if the blocks `of` result from splitting the blocks `old` of the last round by signatures (`Split`).
--- If `old` is `None`, `WasSplit` holds for any blocks `of`.
-abbrev pub WasSplit : Relation → Grouped → Option (List ℕ) → List ℕ → Type 0
-WasSplit rel l None of = Unit {0}
-WasSplit rel l (Some old) of = Split rel (system_of l) (slice_index old) (slice_index of)
 
 -- `HasNewBlock` holds if at least one pair in the list `pairs` contains the ID of a new block. A block is new if its ID
 -- is at least `first_new`.

@@ -3,7 +3,7 @@
 use Rattle.std.specs.Prelude.{◌≡◌, ℕ, List, [], ◌∷◌, length, slice_index, Option}
 use Rattle.signatures.specs.Lists.{list_at, AreIds}
 use Rattle.partition.specs.Blocks.{RoundBlocks, InactiveHaveNone}
-use Rattle.refine_core.specs.Index.{SearchIndex}
+use Rattle.lts.specs.Incoming.{Entries}
 
 -- Returns the signature of the state s. The list `signature_ids` has the ID of this signature at the index s, and the
 -- list `signatures` has the signatures in the order of their IDs.
@@ -21,7 +21,7 @@ pub record Signed : Type 0 where
   pub signatures : List (List (ℕ × ℕ))
   pub signature_ids : List ℕ
   pub cached : List ℕ
-  pub index : Option SearchIndex
+  pub index : Option Entries
   pub visited : List ℕ
 
 -- `HaveSignatures` holds if the list `signature_ids` has the ID of an interned signature for each state. For each state

@@ -3,10 +3,10 @@
 //! signature of s has the pair (label, target block) of each transition of these states that is not inert.
 ghost use Rattle.theory.specs.declared.relation.Relation.TheVariants.{Branching as branching};
 
-use crate::predecessors::Reach;
 use crate::signed_blocks::SignedBlocks;
 use crate::signing::Signing;
 use lts::{Lts, Memory, Meter};
+use theory::Relation;
 
 /// Branching bisimulation (van Glabbeek and Weijland 1996).
 pub struct Branching;
@@ -14,12 +14,8 @@ pub struct Branching;
 impl Signing for Branching {
     ghost relation = { branching };
 
-    fn begin<M: Meter>(l: &Lts<M>, round: SignedBlocks, m: &mut M) -> Result<SignedBlocks, Memory> {
-        lts::rows_are_steps();
-        l.invariants();
-        let round = round.discard_signatures()?;
-        round.invariants();
-        round.begin_index(l, Reach::Back, m)
+    fn which() -> Relation {
+        Relation::Branching
     }
 
     fn discard_cached(round: SignedBlocks) -> Result<SignedBlocks, Memory> {

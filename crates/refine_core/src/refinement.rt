@@ -9,7 +9,7 @@ ghost use Rattle.refine_core.specs.IndexState.{Awaits};
 ghost use Rattle.refine_core.specs.Rounds.{IsNextRound, RenumbersFew};
 
 use crate::signed_blocks::{SignedBlocks, splittable_states};
-use crate::signing::{Signing, sign_each};
+use crate::signing::{Signing, begin_round, sign_and_visit_rest};
 use lts::{Lts, Memory, Meter};
 use partition::{Blocks, Partition, renumber, renumberings_are_few};
 use std::alloc::Global;
@@ -90,9 +90,9 @@ pub fn refine<S: Signing, M: Meter>(
     renumber(alloc, blocks.block_ids(), blocks.count())
 }
 
-/// Makes one round: computes the signatures of the active states (the states that the round processes), and splits the
-/// blocks by these signatures (`Split`). If the call fails, the meter has counted at most one round, and the number of
-/// visits (counted reads of transitions) is at most the number of transitions.
+/// Makes one round: finds the active states (the states that the round processes), computes their signatures, and
+/// splits the blocks by these signatures (`Split`). If the call fails, the meter has counted at most one round, and the
+/// number of visits (counted reads of transitions) is at most the number of transitions.
 fn next_round<S: Signing, M: Meter>(
     round: SignedBlocks,
     l: &Lts<M>,
@@ -114,7 +114,9 @@ fn next_round<S: Signing, M: Meter>(
     lts::rows_are_steps();
     l.invariants();
     m.start_round();
-    let signed = sign_each::<S, M>(l, round, m)?;
+    let before = m.visits();
+    let begun = begin_round::<S, M>(l, round, m)?;
+    let signed = sign_and_visit_rest::<S, M>(l, begun, before, m)?;
     signed.invariants();
     let next = signed.split()?;
     next.invariants();

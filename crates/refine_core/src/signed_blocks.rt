@@ -10,13 +10,14 @@ ghost use Rattle.refine_core.specs.IndexState.{AreAllActive, HasSearched, MayBui
 ghost use Rattle.refine_core.specs.Index.{HasIndex, HasVisited};
 ghost use Rattle.lts.specs.Meter.{HasRoomFor, Costs};
 
-use crate::predecessors::{Predecessors, Reach};
+use crate::predecessors::{Predecessors, Search};
 use inert::Signer;
 use lts::{Lts, Memory, Meter, Visited};
 use partition::Blocks;
 use signatures::{EMPTY, Interner};
 use std::alloc::Global;
 use std::marker::Model;
+use theory::Relation;
 
 /// A block is new if the last split has made it. A round is late if the number of new blocks is less than the number of
 /// all blocks divided by `LATE_ROUND_FRACTION`, rounded down. The rounds that follow a late round usually have few
@@ -169,9 +170,8 @@ impl SignedBlocks {
 
     /// Discards all signatures, including the cached signatures. Afterwards, each state has the empty signature.
     pub fn discard_signatures(mut self) -> Result<SignedBlocks, Memory>
-        ensures same { IfOk result (λ r. (r.blocks ≡ self.blocks)
-            × (r.index ≡ self.index)) }
-        ensures visited { IfOk result (λ r. r.visited ≡ self.visited) }
+        ensures same { IfOk result (λ r. (r.blocks ≡ self.blocks) × (r.index ≡ self.index)
+            × (r.visited ≡ self.visited)) }
         ensures discarded { IfOk result
             (λ r. HasNoSignatures r.blocks.block_ids r.signatures r.cached) }
     {
@@ -190,14 +190,14 @@ impl SignedBlocks {
     pub fn begin_index<M: Meter>(
         mut self,
         l: &Lts<M>,
-        reach: Reach,
+        relation: Relation,
         m: &mut M,
     ) -> Result<SignedBlocks, Memory>
         requires states { length self.blocks.block_ids ≡ l.now.states }
         requires absent { self.index ≡ None }
         requires none { self.visited ≡ [] }
         requires room { HasRoomFor (M.counted m.old) 0 (length l.now.places) }
-        ensures begins { IfOk result (MayBuildIndex l.now reach self) }
+        ensures begins { IfOk result (MayBuildIndex relation l.now self) }
         ensures visited { IfOk result
             (λ r. HasVisited l.now.places (M.counted m.old) (M.counted m.new) r.visited) }
         ensures cost { Costs (M.counted m.old) (M.counted m.new) 0 0 (length l.now.places) }
@@ -210,7 +210,7 @@ impl SignedBlocks {
         // memory for the index is allocated.
         self.signatures = Interner::new(self.alloc, 1)?;
         let blocks = self.blocks.with_positions(self.alloc)?;
-        let (predecessors, visited) = Predecessors::new(self.alloc, l, reach, m)?;
+        let (predecessors, visited) = Predecessors::new(self.alloc, l, relation, m)?;
         let most_signatures = most_signatures(blocks.active());
         Ok(SignedBlocks {
             blocks,
@@ -263,28 +263,29 @@ impl SignedBlocks {
     pub fn find_active<M: Meter>(
         mut self,
         predecessors: Predecessors,
+        relation: Relation,
         l: &Lts<M>,
         m: &mut M,
     ) -> Result<SignedBlocks, Memory>
-        requires index { HasIndex predecessors.reach l.now self.blocks.block_ids predecessors }
+        requires index { HasIndex relation l.now self.blocks.block_ids predecessors }
         requires none { self.visited ≡ [] }
         requires room { HasRoomFor (M.counted m.old) 0 (length l.now.places) }
 
         // On success
-        ensures found { IfOk result (HasSearched predecessors.reach l.now self) }
+        ensures found { IfOk result (HasSearched relation l.now self) }
         ensures visited { IfOk result
             (λ r. HasVisited l.now.places (M.counted m.old) (M.counted m.new) r.visited) }
 
         // Always
         ensures cost { Costs (M.counted m.old) (M.counted m.new) 0 0 (length l.now.places) }
     {
-        let (predecessors, active) = predecessors.search_back(
-            self.alloc,
+        let search = Search {
+            alloc: self.alloc,
             l,
-            &self.blocks,
-            &mut self.visited,
-            m,
-        )?;
+            blocks: &self.blocks,
+            relation,
+        };
+        let (predecessors, active) = predecessors.search_back(&search, &mut self.visited, m)?;
         self.signatures.invariants();
         forget(&mut self.signature_ids, self.blocks.active());
         let blocks = self.blocks.with_active(active);

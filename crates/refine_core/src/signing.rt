@@ -1,6 +1,6 @@
 //! The first part of a round of refinement, which computes the signatures of the active states (the states that the
 //! round processes). The second part of the round is the split.
-ghost use Rattle.std.specs.Prelude.{◌≡◌, ◌<◌, List, ℕ, Option, None, [], length, IfOk};
+ghost use Rattle.std.specs.Prelude.{◌≡◌, ◌<◌, List, ℕ, Option, length, IfOk};
 ghost use Rattle.theory.specs.declared.relation.Relation.{Relation};
 ghost use Rattle.theory.specs.declared.relation.Relation.TheVariants.{Branching as branching};
 ghost use Rattle.lts.specs.Meter.{HasRoomFor, Costs, Visits, on_ok};
@@ -10,40 +10,29 @@ ghost use Rattle.partition.specs.Blocks.{IsMember};
 ghost use Rattle.inert.specs.Signed.{IsSignature};
 ghost use Rattle.refine_core.specs.Signatures.{HasNoSignatures, list_of};
 ghost use Rattle.refine_core.specs.Index.{HasVisited};
-ghost use Rattle.refine_core.specs.IndexState.{Awaits, IsBegun, IsReadyToSign, SignsEach, SignsRound, IsSignedRound};
+ghost use Rattle.refine_core.specs.IndexState.{Awaits, IsBegun, IsReadyToSign, SignsEach, SignsRound};
 
 use crate::signed_blocks::SignedBlocks;
 use lts::{Lts, Memory, Meter, visit_rest};
 use partition::Blocks;
 use signatures::Interner;
 use std::alloc::Global;
+use theory::Relation;
 
 /// A relation (strong or branching bisimilarity) for which rounds can compute signatures. The constant `relation` is
 /// the name of this relation in the definitions of the crate `theory`.
 pub trait Signing {
     ghost relation: { Relation };
 
-    /// Begins a round if there is no predecessor index yet. A block is new if the last split has made it, and a round
-    /// is late if few blocks are new. This method builds the predecessor index if this round is late, and if the
-    /// earlier late rounds together have done enough work (`SignedBlocks::begin_index`).
-    fn begin<M: Meter>(l: &Lts<M>, round: SignedBlocks, m: &mut M) -> Result<SignedBlocks, Memory>
-        requires absent { round.index ≡ None }
-        requires ready_for_round { Awaits relation l.now round }
-        requires none { round.visited ≡ [] }
-        requires room { HasRoomFor (M.counted m.old) 0 (length l.now.places) }
-
-        // On success
-        ensures begun { IfOk result (IsBegun relation l.now round.blocks) }
-        ensures visited { IfOk result
-            (λ r. HasVisited l.now.places (M.counted m.old) (M.counted m.new) r.visited) }
-
-        // Always
-        ensures cost { Costs (M.counted m.old) (M.counted m.new) 0 0 (length l.now.places) };
+    /// Returns the relation as a value of the program.
+    fn which() -> Relation
+        ensures { result ≡ relation };
 
     /// For branching bisimilarity, discards all signatures, including those that are cached from round to round. For
     /// strong bisimilarity, does nothing, because no strong signature is cached.
     fn discard_cached(round: SignedBlocks) -> Result<SignedBlocks, Memory>
-        ensures same { IfOk result (λ r. (r.blocks ≡ round.blocks) × (r.visited ≡ round.visited)) }
+        ensures same { IfOk result (λ r. (r.blocks ≡ round.blocks) × (r.index ≡ round.index)
+            × (r.visited ≡ round.visited)) }
         ensures discarded { IfOk result (λ r. relation ≡ branching
             → HasNoSignatures r.blocks.block_ids r.signatures r.cached) };
 
@@ -62,25 +51,6 @@ pub trait Signing {
             → IsReadyToSign relation l.now old round → SignsEach relation l.now old r) }
         ensures cost { Costs (M.counted m.old) (M.counted m.new) 0 0
             (length (remaining_of round.visited l.now.places)) };
-}
-
-/// Finds the states that the round processes, and computes their signatures. The split that follows uses these
-/// signatures to separate states of the same block. The number of visits (counted reads of transitions) equals the
-/// number of transitions. If fewer visits are needed, the function makes further visits and ignores their results.
-pub(crate) fn sign_each<S: Signing, M: Meter>(
-    l: &Lts<M>,
-    round: SignedBlocks,
-    m: &mut M,
-) -> Result<SignedBlocks, Memory>
-    requires ready_for_round { Awaits S.relation l.now round }
-    requires room { HasRoomFor (M.counted m.old) 0 (length l.now.places) }
-
-    ensures signed { IfOk result (IsSignedRound S.relation l.now round.blocks) }
-    ensures visits { let n = length l.now.places in Visits M.counted m.old m.new result n n }
-{
-    let before = m.visits();
-    let begun = begin_round::<S, M>(l, round, m)?;
-    sign_and_visit_rest::<S, M>(l, begun, before, m)
 }
 
 /// Computes the signature of each state with respect to the given blocks, as if no round had run. All states must be
@@ -117,7 +87,7 @@ pub fn sign_all<S: Signing, M: Meter>(
 /// Computes the signatures of the active states, which are the states that the round processes. Then makes further
 /// visits (counted reads of transitions) and ignores their results, until the number of visits in this round equals the
 /// number of transitions. The meter had counted `before` visits when the round began.
-fn sign_and_visit_rest<S: Signing, M: Meter>(
+pub(crate) fn sign_and_visit_rest<S: Signing, M: Meter>(
     l: &Lts<M>,
     round: SignedBlocks,
     before: u128,
@@ -144,10 +114,10 @@ fn sign_and_visit_rest<S: Signing, M: Meter>(
 }
 
 /// Begins a round, and finds the active states (the states that the round processes). If there is no predecessor index,
-/// the function calls `Signing::begin`, which may build the index. If too many signatures are stored, the function
-/// discards all signatures and activates all states (`SignedBlocks::activate_all`). Otherwise, it searches the index
-/// for the active states.
-fn begin_round<S: Signing, M: Meter>(
+/// the function discards the cached signatures, and then builds the index if enough late rounds were made
+/// (`SignedBlocks::begin_index`). If too many signatures are stored, the function discards all signatures and activates
+/// all states (`SignedBlocks::activate_all`). Otherwise, it searches the index for the active states.
+pub(crate) fn begin_round<S: Signing, M: Meter>(
     l: &Lts<M>,
     round: SignedBlocks,
     m: &mut M,
@@ -169,8 +139,10 @@ fn begin_round<S: Signing, M: Meter>(
     if round.signatures.len() > round.most_signatures {
         return round.activate_all(l);
     }
+    let relation = S::which();
     let Some(predecessors) = round.index.take() else {
-        return S::begin(l, round, m);
+        let round = S::discard_cached(round)?;
+        return round.begin_index(l, relation, m);
     };
-    round.find_active(predecessors, l, m)
+    round.find_active(predecessors, relation, l, m)
 }

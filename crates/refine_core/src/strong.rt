@@ -14,11 +14,11 @@ ghost use Rattle.refine_core.specs.Signatures.{list_of, HaveSignatures};
 ghost use Rattle.refine_core.specs.Shown.{HasNewBlock, IsStrongSplitSignature};
 ghost use Rattle.refine_core.specs.Index.{ReadsRows};
 
-use crate::predecessors::Reach;
 use crate::signed_blocks::SignedBlocks;
 use crate::signing::Signing;
 use lts::{Lts, Memory, Meter, Visited};
 use signatures::{EMPTY, Interner, order};
+use theory::Relation;
 
 /// Strong bisimulation (Milner 1989).
 pub struct Strong;
@@ -26,10 +26,8 @@ pub struct Strong;
 impl Signing for Strong {
     ghost relation = { strong };
 
-    fn begin<M: Meter>(l: &Lts<M>, round: SignedBlocks, m: &mut M) -> Result<SignedBlocks, Memory> {
-        lts::rows_are_steps();
-        l.invariants();
-        round.begin_index(l, Reach::Before, m)
+    fn which() -> Relation {
+        Relation::Strong
     }
 
     fn discard_cached(round: SignedBlocks) -> Result<SignedBlocks, Memory> {

@@ -22,7 +22,7 @@ sign_and_visit_rest-requires-clause-ready g c =
 
 pub sign_and_visit_rest-requires-clause-visited : goal.sign_and_visit_rest-requires-clause-visited
 sign_and_visit_rest-requires-clause-visited g c = rw c.visits-start.ensures
-    (none_visited _ (g.M.Meter.counted c.args.m.now) _ (c.in_ok-round.ensures.same.1 ∙ c.in_ok-new.ensures.none))
+    (none_visited _ (g.M.Meter.counted c.args.m.now) _ (c.in_ok-round.ensures.same.2 ∙ c.in_ok-new.ensures.none))
 
 pub returns-clause-signed : goal.returns-clause-signed
 returns-clause-signed g c s h =
