@@ -12,7 +12,7 @@ use Rattle.std.proofs.Transfers.{starts_with_of_eq, starts_with_trans}
 use borrow.Author.Count.{below_more}
 use Rattle.std.proofs.lemmas.Bool.Decides.{nat_tests}
 use Rattle.std.proofs.lemmas.List.{length-set, length_push, get_or_append_left, get_or_default, take_at, take_all}
-use Rattle.std.proofs.lemmas.List.Elements.{All-push, All-from_get_or, All-from_recursion}
+use Rattle.std.proofs.lemmas.List.Elements.{All-push, All-contains, All-from_get_or, All-from_recursion}
 use Rattle.std.proofs.lemmas.List.Elements.{Contains-push, Contains-push_cases, Contains-append_left, Contains-get_or}
 use Rattle.std.proofs.lemmas.List.Folds.{list_any_none}
 use Rattle.std.proofs.lemmas.List.Sums.{length-filter, count_by-le-length, get_or-le-sum_by, sum_by-cons}
@@ -31,6 +31,7 @@ use Rattle.inert.specs.Search.{LeadsInertly, Laws}
 use Rattle.inert.specs.declared.lens.Step.{Step as RowStep}
 use Rattle.inert.specs.declared.lens.Step.TheVariants.{Inert as Goes, Shows}
 use Rattle.refine_core.specs.Index.{IsUnmarked}
+use Rattle.partition.proofs.CallerLemmas.{in_one}
 use Rattle.refine_core.proofs.CallerLemmas.{none_marked, marked_more}
 use Rattle.refine.specs.Search.{FoundStates, WasFound, Reaches, ExploresStep, IsExplored, FindsFrom, Continues}
 
@@ -201,14 +202,14 @@ module _ (u : Under) (s : ℕ) (lts : IsLts u.l) (laws : Laws)
         let (e, in_row, label, target) = (steps x a y).0 step in
         let ((k, at, same), source) = (sources x u.l.places e).0 in_row in
         let here : place_at u.l.places k ≡ e = get_or_default u.l.places k (0, 0, 0) e at ∙ same in
-        let (j, below, is) = (search.marked.is x).0 on in
+        let (j, below, is) = search.marked.all x on in
         let done = search.taken j below k at (ap source_of here ∙ source ∙ sym is) in
         let both = subst (λ e. IsExplored u s f e × IsTriple (length u.l.labels) u.l.states e) here
         (done, lts.in_range.each k (0, 0, 0) at) in
         (e, both, label, target)
 
     all_led : (x : ℕ) → WasFound f x → LeadsInertly u s x
-    all_led x on = let one = (search.marked.is x).0 on in subst (LeadsInertly u s) one.2 (search.led one.0 one.1)
+    all_led x on = let one = search.marked.all x on in subst (LeadsInertly u s) one.2 (search.led one.0 one.1)
 
     closed : (x y : ℕ) → Inert A blocks x y → WasFound f x → WasFound f y
     closed x y inert on =
@@ -221,7 +222,8 @@ module _ (u : Under) (s : ℕ) (lts : IsLts u.l) (laws : Laws)
     all_found : (x : ℕ) → LeadsInertly u s x → WasFound f x
     all_found x ties =
         kept A blocks (λ y. slice_index_or f.marked y false) closed s x ties
-        ((search.marked.is s).1 (0, search.first.0, search.first.1))
+        (All-contains (λ y. IsTrue (slice_index_or f.marked y false)) f.states s search.marked.each
+        (in_one f.states s (0, search.first.0, search.first.1)))
 
     has_pair : (k b : ℕ) → HasPair Branching u.l u.blocks s k b → Contains f.pairs (k, b)
     has_pair k b (below, (x, t, ties, step, block, other)) =

@@ -3,7 +3,7 @@
 -- each state, the transitions that lead to this state. This file defines which states the search has to find, and what
 -- holds while the search is in progress. The place of a transition is its index in the list of all transitions.
 use Rattle.std.specs.Prelude.{◌≡◌, ◌⊎◌, ℕ, ◌+◌, ◌<◌, ◌≤◌, ◌==◌, Bool, true, false, IsTrue, List, length}
-use Rattle.std.specs.Prelude.{slice_index, slice_index_or, ◌↔◌}
+use Rattle.std.specs.Prelude.{slice_index, slice_index_or}
 use Rattle.std.specs.List.{All, IsDistinct}
 use Rattle.std.specs.Io.{StartsWith}
 use Rattle.theory.specs.System.{internal}
@@ -119,7 +119,8 @@ IsUnmarked marks = (s : ℕ) → ¬ IsTrue (slice_index_or marks s false)
 -- `AreMarked` holds under two conditions. First, the marked states are exactly the states in the list `found`. The
 -- state s is marked if the element of the list `marks` at the index s is true. Second, no state is in `found` twice.
 pub record AreMarked (marks : List Bool) (found : List ℕ) : Type 0 where
-  pub is : (s : ℕ) → IsTrue (slice_index_or marks s false) ↔ IsMember found s
+  pub each : All (λ s. IsTrue (slice_index_or marks s false)) found
+  pub all : (s : ℕ) → IsTrue (slice_index_or marks s false) → IsMember found s
   pub once : IsDistinct (λ s t. s == t) found
 
 -- `MarksFound` holds under two conditions. First, the list of marks in the record `at` has one entry for each of the
