@@ -39,7 +39,6 @@ pub(crate) fn blocks<M: Meter>(
     // of rounds for both. In this case, refinement uses strong signatures, because they take less time to compute.
     match (r, l.labels().internal()) {
         (Relation::Branching, Some(_)) => refine_blocks::<Branching, M>(alloc, l, m),
-        (Relation::Branching, None) => refine_blocks::<Strong, M>(alloc, l, m),
-        (Relation::Strong, _) => refine_blocks::<Strong, M>(alloc, l, m),
+        _ => refine_blocks::<Strong, M>(alloc, l, m),
     }
 }
