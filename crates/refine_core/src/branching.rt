@@ -14,7 +14,7 @@ pub struct Branching;
 impl Signing for Branching {
     ghost relation = { branching };
 
-    fn which() -> Relation {
+    fn as_relation() -> Relation {
         Relation::Branching
     }
 
