@@ -26,7 +26,8 @@ is g c = let r = c.args.r in
     }
 
 pub shown_transitions-requires-clause-numbered : goal.shown_transitions-requires-clause-numbered
-shown_transitions-requires-clause-numbered g c = (c.in_ok-numbering.ensures.classes c.args.r c.requires.classes).numbered
+shown_transitions-requires-clause-numbered g c =
+    (c.in_ok-numbering.ensures.classes c.args.r c.requires.classes).numbered
 
 pub shown_transitions-requires-clause-whole : goal.shown_transitions-requires-clause-whole
 shown_transitions-requires-clause-whole g c =

@@ -12,8 +12,10 @@ use Rattle.quotient_core.proofs.triples.read_row.Goals.{After-leaves_out}
 -- The row of a state is the list of its transitions. Consider the list of the quotient transitions that come from the
 -- transitions of the row before the place `k`. If the quotient does not leave out the transition at the place `k`, the
 -- quotient transition of this transition is appended to the list. Otherwise, the list stays the same.
-more : (g : Over) (c : After-leaves_out g) → let n = c.args.numbering.now in let row = row_of c.args.s c.args.l.now.places in
-    let shown = λ (es : List Triple). filter (λ x. not (is_left_out n.dropped x)) (map (between_numbers n c.args.s) es) in
+more : (g : Over) (c : After-leaves_out g) → let n = c.args.numbering.now in
+    let row = row_of c.args.s c.args.l.now.places in
+    let shown = λ (es : List Triple).
+    filter (λ x. not (is_left_out n.dropped x)) (map (between_numbers n c.args.s) es) in
     shown (take (c.loop-k.k + 1 - c.row-start.result.0) row) ≡ shown (take (c.loop-k.k - c.row-start.result.0) row)
     ++ cond (not c.leaves_out.result) ((c.number-number.result, c.edge-label.result.0, c.number.result) ∷ []) []
 more g c = let l = c.args.l.now in
@@ -43,7 +45,8 @@ pub loop-k-preserved : goal.loop-k-preserved
 loop-k-preserved g c = let range = c.loop-k.auto.k in
     record {
       class = rw (more g (goal.at.loop-k-preserved g c).After-leaves_out, c.if-leaves_out.false, ← append_assoc)
-          (c.in_ok-push.ensures.items ∙ ap (λ xs. xs ++ (c.number-number.result, c.edge-label.result.0, c.number.result) ∷ []) c.loop-k.invariant.class);
+          (c.in_ok-push.ensures.items ∙ ap (λ xs. xs ++ (c.number-number.result, c.edge-label.result.0, c.number.result)
+          ∷ []) c.loop-k.invariant.class);
       visits = search rules;
     }
 

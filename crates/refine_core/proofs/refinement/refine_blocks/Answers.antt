@@ -68,7 +68,8 @@ module _ (g : Over) (c : After-count-more g) where
       AreRounds g.S.Signing.relation (system_of c.args.l.now) of past × WereHalved of past
   were = let made = c.loop-before.invariant.made in
       let parts = next.parts.1 in
-      let half = halved old.block_ids c.in_ok-next.next.blocks.block_ids old.count parts.states parts.stays next.halves in
+      let half = halved old.block_ids c.in_ok-next.next.blocks.block_ids old.count parts.states parts.stays
+      next.halves in
       ((next.split, made.were.0), (half, made.were.1))
 
   costs : let k = suc c.loop-before.invariant.made.rounds in let n = length c.args.l.now.places in

@@ -12,8 +12,8 @@ returns-clause-signature g c =
     subst (λ u. IsSignature Branching u.l u.blocks c.args.s zs) c.new-lens.ensures
     (signed u c.args.s c.invariants.ensures.lts c.invariants.ensures.laws c.rows_are_steps.ensures.sources
     (c.rows_are_steps.ensures.steps u.l)
-    c.inert_steps_stay.ensures.block c.inert_steps_stay.ensures.kept c.find-found.new.self c.in_ok-found.ensures.found zs
-    c.order.ensures.ascending
+    c.inert_steps_stay.ensures.block c.inert_steps_stay.ensures.kept c.find-found.new.self
+    c.in_ok-found.ensures.found zs c.order.ensures.ascending
     (λ z. subst (λ xs. Contains zs z ↔ Contains xs z) (ap (λ f. f.pairs) c.self.view_is) (c.order.ensures.same z)))
 
 pub new-lens-requires : goal.new-lens-requires
