@@ -69,14 +69,15 @@ pub record IsBegun (rel : Relation) (l : Grouped) (p : RoundBlocks) (r : Signed)
   pub index : IfSome r.index (HasIndex rel l r.blocks.block_ids)
   pub ready : IsReadyToSign rel l old r
 
--- `MayBuildIndex` compares the data p of a round with its data r after a step that may build the predecessor index. The
--- step must not have changed the blocks and the cached signature IDs. If only the empty signature was interned before
--- the step, then only the empty signature may be interned afterwards. If there is an index in r, it must be an index of
--- the system `l` (`HasIndex`).
+-- `MayBuildIndex` compares the data p of a round with its data r after a step that may build the predecessor index. If
+-- there is no index in r, the step must not have changed the data. If there is an index in r, it must be an index of the
+-- system `l` (`HasIndex`), and the step must have discarded all interned signatures except the empty signature. In both
+-- cases, the step must not have changed the blocks and the cached signature IDs.
 pub record MayBuildIndex (rel : Relation) (l : Grouped) (p r : Signed) : Type 0 where
   pub blocks : r.blocks ≡ p.blocks
   pub cached : r.cached ≡ p.cached
-  pub only : p.signatures ≡ [] ∷ [] → r.signatures ≡ [] ∷ []
+  pub unbuilt : r.index ≡ None → r ≡ p
+  pub built : ¬ (r.index ≡ None) → r.signatures ≡ [] ∷ []
   pub index : IfSome r.index (HasIndex rel l r.blocks.block_ids)
 
 -- `Restarts` holds if a round processes all states again, without any signatures of earlier rounds. The data of the

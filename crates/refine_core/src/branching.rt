@@ -14,7 +14,7 @@ pub struct Branching;
 impl Signing for Branching {
     ghost relation = { branching };
 
-    fn as_relation() -> Relation {
+    fn signed_relation() -> Relation {
         Relation::Branching
     }
 

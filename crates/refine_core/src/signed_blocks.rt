@@ -1,6 +1,6 @@
 //! The data of a refinement between two of its steps: the blocks, the active states (the states that the round
 //! processes), the signatures, and the predecessor index.
-ghost use Rattle.std.specs.Prelude.{◌≡◌, ℕ, ◌+◌, ◌*◌, ◌<◌, ◌≤◌, [], length, slice_index, IfOk, None};
+ghost use Rattle.std.specs.Prelude.{◌≡◌, ◌⊎◌, ℕ, ◌+◌, ◌*◌, ◌<◌, ◌≤◌, [], length, slice_index, IfOk, None};
 ghost use Rattle.memory.specs.declared.limits.TheConstants.{MOST_STATES};
 ghost use Rattle.signatures.specs.Lists.{AreLists};
 ghost use Rattle.partition.specs.Partition.{AreBlocks};
@@ -157,6 +157,7 @@ impl SignedBlocks {
         }) }
         ensures leaves { IfOk result (λ r.
             DropsSingletons self.blocks.block_ids self.blocks.active r.blocks.active) }
+        ensures indexed { IfOk result (λ r. (self.index ≡ None) ⊎ (r ≡ self)) }
     {
         if self.index.is_some() {
             return Ok(self);
@@ -260,7 +261,7 @@ impl SignedBlocks {
     /// search starts at the states of new blocks, which are the blocks that the last split has made. It looks up the
     /// transitions that lead to these states. For branching bisimilarity, it then goes back along inert transitions.
     /// Each lookup is a visit (a counted read of a transition).
-    pub fn find_active<M: Meter>(
+    pub(crate) fn find_active<M: Meter>(
         mut self,
         predecessors: Predecessors,
         relation: Relation,

@@ -25,7 +25,7 @@ pub trait Signing {
     ghost relation: { Relation };
 
     /// Returns the relation as a value of the program.
-    fn as_relation() -> Relation
+    fn signed_relation() -> Relation
         ensures { result ≡ relation };
 
     /// For branching bisimilarity, discards all signatures, including those that are cached from round to round. For
@@ -139,7 +139,7 @@ pub(crate) fn begin_round<S: Signing, M: Meter>(
     if round.signatures.len() > round.most_signatures {
         return round.activate_all(l);
     }
-    let relation = S::as_relation();
+    let relation = S::signed_relation();
     let Some(predecessors) = round.index.take() else {
         let round = S::discard_cached(round)?;
         return round.begin_index(l, relation, m);

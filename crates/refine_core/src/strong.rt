@@ -26,7 +26,7 @@ pub struct Strong;
 impl Signing for Strong {
     ghost relation = { strong };
 
-    fn as_relation() -> Relation {
+    fn signed_relation() -> Relation {
         Relation::Strong
     }
 

@@ -33,13 +33,13 @@ returns-in_default-clause-begun g c = let l = c.args.l.now in
     c.in_ok-round.round in
     IfOk-weaker c.begin_index.result _ _
     (λ r by. begun r none c.requires.ready_for_round (c.in_ok-round.ensures.same.0 ∙ ap (λ r. r.blocks) is)
-    c.in_ok-round.ensures.discarded by) (rw c.as_relation-relation.ensures at c.begin_index.ensures.begins)
+    c.in_ok-round.ensures.discarded by) (rw c.signed_relation-relation.ensures at c.begin_index.ensures.begins)
 
 pub find_active-requires-clause-index : goal.find_active-requires-clause-index
 find_active-requires-clause-index g c =
     let is = c.round.view_is ∙ c.clear_visited-round.ensures in
     let some = ap (λ r. r.index) (sym is) ∙ sym c.take.ensures.value ∙ c.in-Some.is in
-    rw (c.as_relation-relation.ensures, ap (λ r. r.blocks.block_ids) is) (rw some at c.requires.ready_for_round.index)
+    rw (c.signed_relation-relation.ensures, ap (λ r. r.blocks.block_ids) is) (rw some at c.requires.ready_for_round.index)
 
 -- Suppose that the call of `find_active`, which searches the predecessor index, has succeeded. Then the round is ready
 -- for computing signatures (`IsBegun`).
@@ -50,4 +50,4 @@ returns-clause-begun g c = let rel = g.S.Signing.relation in let l = c.args.l.no
     IfOk-weaker c.find_active.result _ _
     (λ r by. searched rel l c.invariants.ensures c.args.round r _ some c.requires.ready_for_round by)
     (subst (λ r. IfOk c.find_active.result (HasSearched rel l (record r { index = None }))) is
-    (rw (c.take.ensures.after, c.as_relation-relation.ensures) at c.find_active.ensures.found))
+    (rw (c.take.ensures.after, c.signed_relation-relation.ensures) at c.find_active.ensures.found))

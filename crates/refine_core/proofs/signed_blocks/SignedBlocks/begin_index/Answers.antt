@@ -1,4 +1,5 @@
-use Rattle.std.proofs.Common.{rules, ◌∙◌, length, ap, arith}
+use Rattle.std.proofs.Common.{rules, ◌∙◌, length, sym, ap, arith}
+use Rattle.std.proofs.lemmas.Option.{none-some}
 use Rattle.refine_core.proofs.Signatures.{emptied}
 use Rattle.refine_core.proofs.IndexStates.{none_visited}
 use Rattle.refine_core.proofs.signed_blocks.SignedBlocks.begin_index.Goals as goal
@@ -15,7 +16,8 @@ pub returns-then-not-needs_index-clause-begins : goal.returns-then-not-needs_ind
 returns-then-not-needs_index-clause-begins g c = let same = c.needs_index.ensures in record {
   blocks = ap (λ r. r.blocks) same;
   cached = ap (λ r. r.cached) same;
-  only = λ only. ap (λ r. r.signatures) same ∙ only;
+  unbuilt = λ _. same;
+  built = λ some. absurd (some (ap (λ r. r.index) same ∙ c.requires.absent));
   index = rw (ap (λ r. r.index) same ∙ c.requires.absent) tt;
 }
 
@@ -27,6 +29,7 @@ pub returns-clause-begins : goal.returns-clause-begins
 returns-clause-begins g c = record {
   blocks = search rules;
   cached = search rules;
-  only = λ _. search rules;
+  unbuilt = λ none. absurd (none-some _ (sym none));
+  built = λ _. search rules;
   index = c.in_ok-predecessors.ensures.index _ (search rules);
 }
