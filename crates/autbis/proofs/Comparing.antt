@@ -1,7 +1,7 @@
 -- Consider the system that an input describes, after the labels to hide have been hidden in it. The system in memory
 -- differs from this system only in the order of its transitions. So a comparison of two systems in memory has the same
--- verdict (whether the systems are equivalent) as a comparison of the systems that the inputs describe. It also takes
--- the same number of rounds. The lemmas below prove these facts.
+-- verdict (whether the systems are equivalent) as a comparison of the systems that the inputs describe. The two
+-- comparisons take the same number of rounds, too. The lemmas below prove these facts.
 use Rattle.std.proofs.Common.{rules, ◌≡◌, ◌↔◌, ℕ, ◌+◌, ◌*◌, Bool, IsTrue, List, length, ap₂, sym}
 use Rattle.std.specs.List.Sorted.{IsPermutation}
 use Rattle.std.proofs.lemmas.List.Sorted.{IsPermutation-sym}
@@ -30,9 +30,9 @@ pub record OrderLaws : Type 0 where
       Turns rel (union_of A C) k → Turns rel (union_of B D) k
 
 module _ (law : OrderLaws) (bounds : Bounds) (H : List (List ℕ)) where
-  -- Suppose that the system in memory was read from an input, and that the labels in H were hidden when it was read.
-  -- Then this system has the same steps as the system that the input describes, after the labels in H have been hidden
-  -- in it.
+  -- Suppose that the system in memory was read from an input, and that the labels in the list H were hidden when it was
+  -- read. Then this system has the same steps as the system that the input describes, after the labels in H have been
+  -- hidden in it.
   pub steps_of_text : (given : List ℕ) (s : Grouped) (read : ReadsAs bounds given H s) →
       SameSteps (system_of s) (Hide H read.0)
   steps_of_text given s read = search (rules, law.permuted, read.2.first, read.2.states, IsPermutation-sym, read.2.same)
@@ -44,14 +44,15 @@ module _ (law : OrderLaws) (bounds : Bounds) (H : List (List ℕ)) where
 
   module _ (rel : Relation) (given given' : List ℕ) (s t : Grouped)
       (one : ReadsAs bounds given H s) (other : ReadsAs bounds given' H t) where
-    -- Suppose that two systems in memory were read from two inputs, and that the labels in H were hidden. Then the
-    -- systems in memory are equivalent if and only if the systems that the inputs describe are equivalent after the
-    -- labels in H have been hidden in them.
+    -- Suppose that two systems in memory were read from two inputs, and that the labels in the list H were hidden in
+    -- both systems. Then the systems in memory are equivalent if and only if the systems that the inputs describe are
+    -- equivalent after the labels in H have been hidden in them.
     pub compared : Equivalent rel (system_of s) (system_of t) ↔ Equivalent rel (Hide H one.0) (Hide H other.0)
     compared = search (rules, law.equivalent, steps_of_text, steps_in_memory)
 
     -- If the refinement of the union of the two systems in memory takes k rounds, then the refinement of the union of
-    -- the two systems that the inputs describe also takes k rounds. The labels in H are hidden in all these systems.
+    -- the two systems that the inputs describe takes k rounds, too. The labels in the list H are hidden in all these
+    -- systems.
     pub compared_turns : (k : ℕ) → Turns rel (union_of (system_of s) (system_of t)) k
         → Turns rel (union_of (Hide H one.0) (Hide H other.0)) k
     compared_turns k = search (rules, law.turns, steps_of_text)
@@ -67,8 +68,8 @@ module _ (asked : Request) (first second : List ℕ) (s t : Grouped)
     reads_second = other.1;
   }
 
-  -- If a verdict (whether two systems are equivalent) is correct for the two systems in memory, then it is also correct
-  -- for the two systems that the inputs describe.
+  -- A verdict states whether two systems are equivalent. If a verdict is correct for the two systems in memory, then
+  -- the same verdict is correct for the two systems that the inputs describe.
   pub verdict_of : (law : OrderLaws) (same : Bool) →
       (IsTrue same ↔ Equivalent asked.relation (system_of s) (system_of t)) →
       IsVerdict asked both_read same
@@ -86,7 +87,7 @@ module _ (asked : Request) (first second : List ℕ) (s t : Grouped)
 
     -- A meter counts rounds and visits (reads of transitions). Suppose that the refinement of the union of the two
     -- systems in memory takes as many rounds as the meter has counted. Suppose also that the counted visits are within
-    -- the bounds for this union (`StaysWithin`). Then both facts also hold for the union of the two systems that the
+    -- the bounds for this union (`StaysWithin`). Then the same two facts hold for the union of the two systems that the
     -- inputs describe.
     pub counted_whole : (law : OrderLaws) → Turns asked.relation (union_of (system_of s) (system_of t)) at.rounds →
         (let k = length s.places + length t.places in

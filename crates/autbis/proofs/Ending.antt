@@ -1,7 +1,7 @@
 -- These lemmas state how a minimisation or a comparison ends: with its output, with an error in an input, or with a
 -- failure. The contract of a source (an object from which an input is read) or of an opener (an object that opens files
--- by their names) may state the contents of an input. The variable `revealed` has the contents that the contract
--- states. It is `None` if the contract states no contents.
+-- by their names) may state the contents of an input. The variable `revealed` is the contents that the contract states,
+-- or `None` if the contract states no contents.
 use Rattle.std.proofs.Common.{◌≡◌, ◌⊎◌, ℕ, Bool, List, ◌++◌, Option, Some, None, IfSome, if◌then◌else◌}
 use Rattle.std.proofs.Common.{inl, inr, ap, refl, sym, subst}
 use Rattle.std.proofs.lemmas.Option.{none-some}
@@ -162,10 +162,10 @@ module _ {Out : Type 0} (asked : Request) (law : NotBoth asked.bounds) (output :
         (of_all other.before other.after got.second _ got.took got.exhausted.1.0
         (got.both, is.same, is.verdict, refl, refl))) is.written
 
--- The contract of the opener (an object that opens files by their names) may state the contents of an input, which are
--- then the list `revealed`. Suppose that the property P implies the property Q, and that P holds for the actual
--- contents of the input. If the contract states the contents, then Q holds for the stated contents. Otherwise, Q holds
--- for some text.
+-- The contract of the opener (an object that opens files by their names) may state the contents of an input. In this
+-- case, the contents are the list `revealed`. Suppose that the property P implies the property Q, and that P holds for
+-- the actual contents of the input. If the contract states the contents, then Q holds for the stated contents.
+-- Otherwise, Q holds for some text.
 of_told : (revealed text : Option (List ℕ)) {P Q : List ℕ → Type 0} → ((given : List ℕ) → P given → Q given) →
     IfSome revealed (λ bytes. text ≡ Some bytes) → OfText text P → OfText revealed Q
 of_told None text follows is (given, _, holds) = (given, tt, follows given holds)
@@ -173,7 +173,8 @@ of_told (Some bytes) text follows is (given, same, holds) = (given, rw is at sam
 
 module _ (asked : Request) where
   -- The contract of the opener (an object that opens files by their names) may state the contents of the inputs. If
-  -- `bytes` is the correct output for the actual contents, then it is also the correct output for the stated contents.
+  -- `bytes` is the correct output for the actual contents, then `bytes` is the correct output for the stated contents
+  -- as well.
   answer_told : (bytes : List ℕ) (status : ℕ) (revealed contents : Contents) → AreAsRevealed revealed contents →
       IsAnswer asked contents bytes status → IsAnswer asked revealed bytes status
   answer_told bytes status (one revealed) (one text) is answer = of_told revealed text (λ given h. h) is answer
@@ -182,8 +183,9 @@ module _ (asked : Request) where
   answer_told bytes status (one revealed) (two text other) is answer = absurd is
   answer_told bytes status (two revealed more) (one text) is answer = absurd is
 
-  -- The contract of the opener (an object that opens files by their names) may state the contents of the inputs. If the
-  -- line of `--stats` is correct for the actual contents, then it is also correct for the stated contents.
+  -- `ShowsCountsOf` states that a prefix of the line that `--stats` asks for was written to standard error. The
+  -- contract of the opener (an object that opens files by their names) may state the contents of the inputs. If
+  -- `ShowsCountsOf` holds for the actual contents, then it holds for the stated contents as well.
   pub shown_told : (old new : Option (List ℕ)) (revealed contents : Contents) → AreAsRevealed revealed contents →
       ShowsCountsOf asked contents old new → ShowsCountsOf asked revealed old new
   shown_told old new (one revealed) (one text) is shown = of_told revealed text (λ given h. h) is shown
@@ -192,7 +194,7 @@ module _ (asked : Request) where
   shown_told old new (two revealed more) (one text) is shown = absurd is
 
   -- The contract of the opener (an object that opens files by their names) may state the contents of the inputs. If the
-  -- actual contents of an input are incorrect, then the stated contents are also incorrect.
+  -- actual contents of an input are incorrect, then the stated contents are incorrect as well.
   fault_told : (revealed contents : Contents) → AreAsRevealed revealed contents → HasFaultyText asked.bounds contents →
       HasFaultyText asked.bounds revealed
   fault_told (one revealed) (one text) is wrong = told_then revealed text _ is wrong
@@ -203,15 +205,15 @@ module _ (asked : Request) where
   fault_told (two revealed more) (one text) is wrong = absurd is
 
 -- `AreAsRevealed` compares the contents of an input that a contract states with the actual contents of the input. This
--- lemma says that any contents agree with themselves in this comparison.
+-- lemma says that every input agrees with itself in this comparison.
 pub told_itself : (revealed : Option (List ℕ)) → IfSome revealed (λ bytes. revealed ≡ Some bytes)
 told_itself None = tt
 told_itself (Some bytes) = refl
 
 -- `EndsRun` states how a run (a minimisation or a comparison) ended. The contract of the opener (an object that opens
--- files by their names) may state the contents of the inputs. Suppose that `EndsRun` holds for the actual contents of
--- the inputs. Then `EndsRun` also holds for the contents that the contract states. In addition, the conditions `Sound`
--- (no read has failed) and `Lost` (a read has failed) may be replaced by conditions that follow from them.
+-- files by their names) may state the contents of the inputs. If `EndsRun` holds for the actual contents of the inputs,
+-- then `EndsRun` holds for the stated contents as well. In addition, the conditions `Sound` (no read has failed) and
+-- `Lost` (a read has failed) may be replaced by conditions that follow from them.
 pub ends_told : {Out : Type 0} {asked : Request} {revealed contents : Contents} {Sound Lost Sound' Lost' : Type 0}
     {output : Used Out} {status : ℕ} → AreAsRevealed revealed contents →
     (Sound → Sound') → (Lost → Lost') → EndsRun asked contents Sound Lost output status →
@@ -225,13 +227,12 @@ ends_told {asked = asked} {revealed = revealed} is sound loses (cut_short zero e
     cut_short (sound zero) exit bytes wanted (answer_told asked _ _ revealed _ is answer) broken
 ends_told is sound loses (lost failed exit kept) = lost (loses failed) exit kept
 
--- `NotBothOfList` holds if a correct hide list, which is a file with the labels to hide, has no error
--- (`FirstHideFault`).
+-- `NotBothOfList` holds if no correct hide list (a file with the labels to hide) has an error (`FirstHideFault`).
 abbrev pub NotBothOfList : Type 0
 NotBothOfList = (text : List ℕ) (H : List (List ℕ)) (f : Fault) → HideReads text H → ¬ FirstHideFault text f
 
--- If the contents of a hide list (a file with the labels to hide) have an error (`FirstHideFault`), then they cannot be
--- read as a list of labels (`HideReads`).
+-- If the contents of a hide list (a file with the labels to hide) have an error (`FirstHideFault`), then these contents
+-- cannot be read as a list of labels (`HideReads`).
 is_faulty_list : NotBothOfList → (fault : Fault) (revealed : Option (List ℕ)) →
     IfSome revealed (λ text. FirstHideFault text fault)
     → IfSome revealed (λ list. (H : List (List ℕ)) → ¬ HideReads list H)
@@ -246,7 +247,8 @@ list_status Memory h = absurd h
 list_status _ h = refl
 
 -- `HideListFails` states why a hide list (a file with the labels to hide) could not be read. Suppose that the reader of
--- a hide list returned an error, and that the file was then closed. Then `HideListFails` holds for both calls together.
+-- a hide list returned an error, and that the file was then closed. Then `HideListFails` holds for these two calls
+-- together.
 pub list_unread : {F : Type 0} (files : FilesUsed F) (name : Name) (revealed : Option (List ℕ))
     {given : List ℕ} {rest : Option (List ℕ)} {failures : ℕ} {fault : Fault} →
     NotBothOfList → IfSome (files.holds files.old name) (λ bytes. revealed ≡ Some bytes) → Consumes revealed rest given

@@ -9,22 +9,22 @@ use Rattle.autbis.specs.Jobs.{IsGivenUp, HideListFails}
 use Rattle.autbis.specs.Jobs.HideListFails.{list_failed, no_memory, list_faulty}
 use Rattle.autbis.specs.Opened.{OnlyCloses}
 
--- Suppose that a file was opened, and that the property P holds for the bytes that can be read from the open file. If
--- the contract of the opener (an object that opens files by their names) states the contents of the file, then P holds
--- for these contents.
+-- Suppose that a file was opened, and that the property P holds for the bytes that can be read from the open file. The
+-- contract of the opener (an object that opens files by their names) may state the contents of the file. In this case,
+-- P holds for the stated contents.
 pub told_then : (revealed rest : Option (List ℕ)) (P : List ℕ → Type 0) → IfSome revealed (λ text. rest ≡ Some text) →
     IfSome rest P → IfSome revealed P
 told_then revealed rest P is h = IfSome_then revealed is (λ text same. rw same at h)
 
 -- Suppose that an opener (an object that opens files by their names) was asked to open the files `first`, and then to
--- open the files `more`. Then it was asked to open the files `first ++ more`.
+-- open the files `more`. Then the opener was asked to open the files `first ++ more`.
 opens_then : (old mid new : Option (List Name)) (first more : List Name) → Opens old mid first → Opens mid new more →
     Opens old new (first ++ more)
 opens_then old mid new first more a b =
     IfSome_then old a (λ known is. rw is at b ∙ ap Some (append_assoc known first more))
 
 -- `IsRefused` holds for a list of files if one of these files could not be opened, and the files after it were not
--- opened. If `IsRefused` holds for the list `first`, then it also holds for the longer list `first ++ more`.
+-- opened. If `IsRefused` holds for the list `first`, then `IsRefused` holds for the longer list `first ++ more`.
 pub refused_then : {F : Type 0} {files : FilesUsed F} {first : List Name} (more : List Name) {status : ℕ} →
     IsRefused files first status → IsRefused files (first ++ more) status
 refused_then more is = record {
@@ -39,8 +39,8 @@ refused_then more is = record {
 module _ {F : Type 0} {files : FilesUsed F} {hide : Option Name} {status : ℕ} (mid : F) where
   -- `HideListFails` states why a sequence of calls could not read the hide list, which is a file with the labels to
   -- hide. Suppose that `HideListFails` holds for a sequence of calls. Suppose also that the calls before this sequence
-  -- have not changed the contents of any file, and have closed no file that had failed. Then `HideListFails` also holds
-  -- for the sequence that consists of the earlier calls and these calls.
+  -- have not changed the contents of any file, and have closed no file from which a read had failed. Then
+  -- `HideListFails` also holds for the sequence of all these calls.
   unread_after : files.holds mid ≡ files.holds files.old → HasLostNone (record files { new = mid }) →
       HideListFails (record files { old = mid }) hide status → HideListFails files hide status
   unread_after same kept (list_failed named lost five) = list_failed named lost five
@@ -49,8 +49,7 @@ module _ {F : Type 0} {files : FilesUsed F} {hide : Option Name} {status : ℕ} 
 
   -- `HideListFails` states why a sequence of calls could not read the hide list, which is a file with the labels to
   -- hide. Suppose that `HideListFails` holds for a sequence of calls, and that the calls after this sequence have
-  -- closed no file that had failed. Then `HideListFails` also holds for the sequence that consists of these calls and
-  -- the later calls.
+  -- closed no file from which a read had failed. Then `HideListFails` also holds for the sequence of all these calls.
   unread_closed : HasLostNone (record files { old = mid }) →
       HideListFails (record files { new = mid }) hide status → HideListFails files hide status
   unread_closed kept (list_failed named lost five) = list_failed named (kept ∙ lost) five
@@ -81,9 +80,10 @@ module _ {F : Type 0} {files : FilesUsed F} {first more : List Name} (mid : F)
 
   -- `IsGivenUp` holds if a job (the task that the command line asks for) ended early. The reason is that one of its
   -- files could not be opened, or that the hide list (the file with the labels to hide) could not be read. Suppose that
-  -- the files in the list `first` were opened, that no file that had failed was closed until then, and that the job
-  -- then ended early while the files in the list `more` were opened or the hide list was read. Then `IsGivenUp` holds
-  -- for the list `first ++ more`.
+  -- a sequence of calls opened all files in the list `first`, and closed no file from which a read had failed. Suppose
+  -- also that the job ended early in the calls after this sequence, in which the files in the list `more` were to be
+  -- opened and the hide list was to be read. Then `IsGivenUp` holds for the list `first ++ more` and the sequence of
+  -- all these calls.
   pub given_up_after : {hide : Option Name} {status : ℕ} → HasLostNone (record files { new = mid }) →
       IsGivenUp (record files { old = mid }) more hide status → IsGivenUp files (first ++ more) hide status
   given_up_after kept (inl other) = inl (refused_after other)
@@ -93,13 +93,13 @@ module _ {F : Type 0} {files : FilesUsed F} {names : List Name}
     (mid : F) (only : OnlyCloses (record files { old = mid })) where
   -- `HasAll` holds for a sequence of calls if these calls opened all files with the names in `names`, and changed the
   -- contents of no file. Suppose that `HasAll` holds for a sequence of calls, and that the calls after this sequence
-  -- only closed files. Then `HasAll` also holds for the sequence that consists of these calls and the later calls.
+  -- only closed files. Then `HasAll` also holds for the sequence of all these calls.
   pub all_closed : HasAll (record files { new = mid }) names → HasAll files names
   all_closed all = search rules
 
   -- `IsRefused` holds for a sequence of calls if one of the files with the names in `names` could not be opened.
   -- Suppose that `IsRefused` holds for a sequence of calls, and that the calls after this sequence only closed files.
-  -- Then `IsRefused` also holds for the sequence that consists of these calls and the later calls.
+  -- Then `IsRefused` also holds for the sequence of all these calls.
   pub refused_closed : {status : ℕ} → IsRefused (record files { new = mid }) names status → IsRefused files names status
   refused_closed is = record {
     asked = is.asked;
@@ -112,8 +112,8 @@ module _ {F : Type 0} {files : FilesUsed F} {names : List Name}
 
   -- `IsGivenUp` holds for a sequence of calls if a job (the task that the command line asks for) ended early in these
   -- calls. Suppose that `IsGivenUp` holds for a sequence of calls. Suppose also that the calls after this sequence only
-  -- closed files, and that none of these files had failed. Then `IsGivenUp` also holds for the sequence that consists
-  -- of these calls and the later calls.
+  -- closed files, and that no read from these files had failed. Then `IsGivenUp` also holds for the sequence of all
+  -- these calls.
   pub given_up_closed : {hide : Option Name} {status : ℕ} → HasLostNone (record files { old = mid }) →
       IsGivenUp (record files { new = mid }) names hide status → IsGivenUp files names hide status
   given_up_closed kept (inl other) = inl (refused_closed other)

@@ -16,10 +16,10 @@ use Rattle.arguments.specs.declared.arguments.WordFault.{WordFault}
 use Rattle.arguments.specs.declared.arguments.WordFault.TheVariants as fault
 
 -- `EndsWords output fault status` states how the program ended if the command line asks neither for a minimisation nor
--- for a comparison. The error `fault` states why there is no such job. After a request for help or for the version, the
--- exit status is 0 if the whole text was written. It is 5 if the sink (the object to which the output is written)
--- failed after a prefix of the text had been written. In all other cases, the sink is unchanged, and the exit status is
--- 4 if memory ran out and 3 otherwise.
+-- for a comparison. The error `fault` states why the command line asks for neither of them. After a request for help or
+-- for the version, the exit status is 0 if the whole text was written. The exit status is 5 if the sink (the object to
+-- which the output is written) failed after a prefix of the text had been written. In all other cases, the sink is
+-- unchanged, and the exit status is 4 if memory ran out and 3 otherwise.
 abbrev pub EndsWords : {Out : Type 0} → Used Out → WordFault → ℕ → Type 0
 EndsWords output (fault.Help text) status =
     ((status ≡ 0) × Gains output (string_bytes text)) ⊎ ((status ≡ 5) × BreaksOff output (string_bytes text))
@@ -27,7 +27,7 @@ EndsWords output fault.Memory status = (status ≡ 4) × (output.new ≡ output.
 EndsWords output _ status = (status ≡ 3) × (output.new ≡ output.old)
 
 -- `IsUnread error fault` holds if the program may report `fault` when the operating system returned `error` instead of
--- the command line. The program may always report that memory ran out. It may report an incorrect command line
+-- the command line. The program may always report that memory ran out. The program may report an incorrect command line
 -- (`Usage`) only if `error` does not mean that memory ran out.
 abbrev pub IsUnread : Error → WordFault → Type 0
 IsUnread error fault.Memory = ⊤
@@ -46,10 +46,11 @@ abbrev pub AskForNone : Result (Vec (String Global) Global) Error → WordFault 
 AskForNone words fault =
     MatchResult words (λ words. IsFaultOf (map string_bytes words.items) fault) (λ error. IsUnread error fault)
 
--- `ShowsStats` holds under two conditions. First, the command line asks for a minimisation with the option `--stats`.
--- Second, a prefix of the line of `--stats` was written to standard error. The function `holds` gives the contents of
--- each file, and the list `input` has the bytes of standard input. The lists `old` and `new` have the bytes of standard
--- error before the program runs and after it has ended.
+-- `ShowsStats` holds if all three of the following conditions hold. First, the command line asks for a minimisation
+-- with the option `--stats`. Second, the list `hidden` contains exactly the labels of the hide list, which is a file
+-- with the labels to hide (`HidesNamed`). Third, a prefix of the line that `--stats` asks for was written to standard
+-- error. The function `holds` gives the contents of each file, and the list `input` contains the bytes of standard
+-- input. The lists `old` and `new` contain the bytes of standard error before the program runs and after it has ended.
 pub record ShowsStats (words : Result (Vec (String Global) Global) Error) (holds : Name → Option (List ℕ))
     (input old new : Option (List ℕ)) : Type 0 where
   pub job : Job
@@ -59,9 +60,9 @@ pub record ShowsStats (words : Result (Vec (String Global) Global) Error) (holds
   pub hides : HidesNamed holds (hide_of job) hidden
   pub shown : ShowsCountsOf (request_of job hidden) (revealed_of holds input job) old new
 
--- `AnswersWords` states how the program ended. There are two cases. In the first case, the command line asks for a job
--- (a subcommand with its options), and the job ended as `JobEnds` states. In the second case, the command line does not
--- ask for a job, and the program ended as `EndsWords` states. In this case, neither files nor standard input were used.
+-- `AnswersWords` states how the program ended. If the command line asks for a job (a subcommand with its options), the
+-- job ended as `JobEnds` states. If the command line does not ask for a job, the program ended as `EndsWords` states,
+-- and neither files nor standard input were used.
 pub data AnswersWords {F In Out : Type 0} (words : Result (Vec (String Global) Global) Error)
     (files : FilesUsed F) (input : Used In) (output : Used Out) (status : ℕ) : Type 0 where
   job : (job : Job) → AskFor words job → JobEnds files input output job status →

@@ -20,9 +20,9 @@ use Rattle.autfmt.specs.Stream.{AppendsPrefix}
 use Rattle.autfmt.specs.Written.{listed, transition_cmp}
 use Rattle.autbis.specs.declared.run.Counts.{Counts}
 
--- `Request` has the parameters of a minimisation or a comparison. The field `relation` is the relation modulo which
--- systems are minimised or compared. The field `bounds` has the largest numbers of states and transitions that an input
--- may have, and the field `hidden` has the labels to hide.
+-- `Request` contains the parameters of a minimisation or a comparison. The field `relation` is the relation modulo
+-- which systems are minimised or compared. The field `bounds` contains the largest numbers of states and transitions
+-- that an input may have, and the field `hidden` contains the labels to hide.
 pub record Request : Type 0 where
   pub relation : Relation
   pub bounds : Bounds
@@ -36,8 +36,8 @@ asks rel bounds H = record { relation = rel; bounds = bounds; hidden = H }
 -- and a sink is an object to which an output is written. The fields `old` and `new` are the source or sink before and
 -- after the call. For a source, the fields `before` and `after` are the bytes that remain to be read before and after
 -- the call. For a sink, `before` and `after` are the bytes that had been written to the sink before and after the call.
--- These two fields are `None` if the contract of the source or sink does not state the bytes. The field `failures` is
--- the number of failures of the source or sink after the call.
+-- The fields `before` and `after` are `None` if the contract of the source or sink does not state the bytes. The field
+-- `failures` is the number of failures of the source or sink after the call.
 pub record Used (T : Type 0) : Type 0 where
   pub old : T
   pub new : T
@@ -48,7 +48,7 @@ pub record Used (T : Type 0) : Type 0 where
 -- `used` makes a `Used` record, which describes the effect of a call on a source or on a sink. A source is an object
 -- from which an input is read, and a sink is an object to which an output is written. The function `tells` gives the
 -- bytes that remain to be read from a source, or the bytes that were written to a sink. The function `failures` gives
--- the number of failures.
+-- the number of failures of a source or sink.
 abbrev pub used : {T : Type 0} → (T → Option (List ℕ)) → (T → ℕ) → (old new : T) → Used T
 used tells failures old new =
     record { old = old; new = new; before = tells old; after = tells new; failures = failures new }
@@ -99,8 +99,8 @@ IsFaulty bounds text = (A : System) → ¬ Reads bounds text A
 -- `MinimisesTo` holds if a minimisation has read its input to the end and written the minimised system. Let m be the
 -- number of transitions of the system that was read, and let r be the number of rounds that the meter has counted.
 -- After the labels to hide have been hidden, the refinement of this system must take r rounds. The number r must be at
--- most the number of states. The number of visits (counted reads of transitions) must be between r * m and (r + 2) * m.
--- The argument `counts` must be the size of the system that was read.
+-- most the number of states. The number of visits (reads of transitions) must be between r * m and (r + 2) * m. The
+-- argument `counts` must be the size of the system that was read.
 pub record MinimisesTo {In Out : Type 0} (asked : Request) (text : List ℕ) (source : Used In) (sink : Used Out)
     (at : meter.Counts) (counts : Counts) : Type 0 where
   pub to : MinimisedText asked text
@@ -110,9 +110,9 @@ pub record MinimisesTo {In Out : Type 0} (asked : Request) (text : List ℕ) (so
   pub keeps : StaysWithin counts.states counts.transitions quotient_passes at (at.rounds * counts.transitions)
   pub exhausted : IsExhausted source
 
--- `HasReadInput` holds under three conditions. First, a minimisation has read its input to the end. Second, the input
--- is correct. Third, the numbers of rounds and visits (reads of transitions) that the meter has counted are within the
--- bounds for a minimisation of the system that the input describes.
+-- `HasReadInput` holds if all three of the following conditions hold. First, a minimisation has read its input to the
+-- end. Second, the input is correct. Third, the numbers of rounds and visits (reads of transitions) that the meter has
+-- counted are within the bounds for a minimisation of the system that the input describes.
 pub record HasReadInput {T : Type 0} (bounds : Bounds) (text : List ℕ) (source : Used T) (at : meter.Counts) : Type 0
   where
     pub exhausted : IsExhausted source

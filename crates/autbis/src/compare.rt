@@ -1,5 +1,5 @@
-//! Compares two systems. The function `run_cmp` reads two inputs, and writes whether the systems that they describe are
-//! equivalent.
+//! Compares two systems. The function `run_cmp` reads two inputs, and writes whether the systems that the inputs
+//! describe are equivalent.
 ghost use Rattle.std.specs.Prelude.{◌≡◌, IfErr, OnOk, OnErr};
 ghost use Rattle.std.specs.Io.KnownBytes.{Appends};
 ghost use Rattle.lts.specs.Meter.{IsFresh};
@@ -51,15 +51,16 @@ impl From<Memory> for CmpFault {
 /// list `h` by the internal action `i`. Then it compares the two systems modulo `rel`, and writes the line `TRUE` or
 /// `FALSE` to the sink `w` (the object to which the output is written). Finally it calls `w.finish` once. The result of
 /// `run_cmp` is the verdict, which is true if the systems are equivalent. The meter `m` counts rounds and visits (reads
-/// of transitions), and must not have counted anything before. If both systems together have n states and k
-/// transitions, a comparison that succeeds makes at most n rounds and exactly (rounds + 1) * k visits.
+/// of transitions), and must not have counted anything before. If the comparison succeeds, the number of rounds is at
+/// most the number of states of both systems together. The number of visits is then exactly (rounds + 1) times the
+/// number of transitions of both systems together.
 ///
 /// # Errors
 ///
 /// - `Side::First` or `Side::Second`: no system could be read from the first or from the second input. The field
-///   `fault` of the error has the reason, which is one of the errors that `run_min` may return. Nothing was written or
-///   counted. After an error in the first input, the source `b` (the object from which the second input is read) is
-///   unchanged.
+///   `fault` of the error states the reason, which is one of the errors that `run_min` may return. Nothing was written
+///   or counted. If the first input has an error or cannot be read, the source `b` (the object from which the second
+///   input is read) is unchanged.
 /// - `Side::Run` with `Memory`: an allocation failed, and nothing was written.
 /// - `Side::Run` with `Device`: the sink `w` failed, and a prefix of the line `TRUE` or `FALSE` was written.
 pub fn run_cmp<M: Meter, R1: Source, R2: Source, W: Sink>(

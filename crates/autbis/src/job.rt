@@ -26,7 +26,8 @@ const NOT_UTF8: &str = "autbis: command words are not UTF-8\n";
 const INPUT: &str = "standard input";
 
 /// Does the job (the task) that the command line `words` asks for, and returns the exit status. The first word of the
-/// command line is the name of the program. The opener `files` opens and closes all files. The exit statuses are:
+/// command line is the name of the program. The opener `files` (an object that opens files by their names) opens and
+/// closes all files. The exit status has one of the following values:
 ///
 /// - 0 after a success.
 /// - 1 after a comparison of two systems that are not equivalent.
@@ -35,10 +36,10 @@ const INPUT: &str = "standard input";
 /// - 4 if memory ran out.
 /// - 5 if a file cannot be opened, or a read or write failed.
 ///
-/// The result of the job, or the help text, is written to `output`. First the input files are opened. Then the hide
-/// list is opened and read, and finally the inputs are read. All files are closed at the end. If the command line names
-/// no input file, the system to minimise is read from `input`, the standard input. All error messages are written to
-/// `e`. If the exit status is 0 or 1, nothing is written to `e` except for the line of `--stats`.
+/// The result of the job, or the help text, is written to `output`. The input files are opened first. Then the hide
+/// list is opened and read, and after that the inputs are read. All files are closed at the end. If the command line
+/// names no input file, the system to minimise is read from `input`, the standard input. All error messages are written
+/// to `e`. If the exit status is 0 or 1, nothing is written to `e` except for the line that `--stats` asks for.
 pub fn main_program<F: Opener, R: Source, W: Sink, E: Write>(
     alloc: Global,
     words: io::Result<Vec<String>>,
@@ -94,7 +95,7 @@ fn relation_of(job: &Job) -> Relation
     }
 }
 
-/// Returns whether the job (the task that the command line asks for) writes the line of `--stats`.
+/// Returns whether the job (the task that the command line asks for) writes the line that `--stats` asks for.
 fn shows_counts(job: &Job) -> bool
     ensures { result ≡ shows_counts job.now }
 {
@@ -105,7 +106,7 @@ fn shows_counts(job: &Job) -> bool
 /// The status is 0 after a success, 1 if the two systems are not equivalent, 2 if an input is incorrect, 4 if memory
 /// ran out, and 5 if a read or write failed. If the status is at most 4, no read from an input has failed. If the job
 /// names no input file, the system to minimise is read from `input`, the standard input. Error messages are written to
-/// `e`. If the status is 0 or 1, nothing is written to `e` except for the line of `--stats`.
+/// `e`. If the status is 0 or 1, nothing is written to `e` except for the line that `--stats` asks for.
 fn run_opened<S: Source, R: Source, W: Sink, E: Write>(
     alloc: Global,
     job: &Job,

@@ -1,8 +1,9 @@
 //! The program `autbis` without its function `main`: everything from the command-line arguments to the exit status.
 //!
-//! The module `job` does the task that the command line asks for. It uses the modules `opener` and `opening` to open
-//! files. The module `run` minimises one input, and `compare` compares two inputs. The module `program` calls these two
-//! modules. It also writes error messages with the module `reports`, and the line of `--stats` with the module `stats`.
+//! The module `job` does the task that the command line asks for. The module `job` uses the modules `opener` and
+//! `opening` to open files. The module `run` minimises one input, and `compare` compares two inputs. The module
+//! `program` calls these two modules. The module `program` also writes error messages with the module `reports`, and
+//! the line that `--stats` asks for with the module `stats`.
 #![tactic(auto)]
 
 mod compare;

@@ -1,5 +1,5 @@
-//! An opener is an object that opens files by their names. This module has a trait for openers, and an opener for the
-//! files of the file system.
+//! An opener is an object that opens files by their names. This module defines a trait for openers, and an opener for
+//! the files of the file system.
 ghost use Rattle.std.specs.Prelude.{◌≡◌, ◌≤◌, ◌+◌, ◌-◌, ℕ, List, [], ◌∷◌, None, Some, Option, IfSome, IfOk};
 ghost use Rattle.std.specs.Prelude.{MatchResult};
 ghost use Rattle.autbis.specs.Files.{Name, Opens};
@@ -9,20 +9,20 @@ use std::fs;
 use std::marker::Model;
 use std::rt::Files;
 
-/// An opener is an object that opens files by their names, and closes them. Each file is read from its beginning. After
-/// the opener could not open a file, it must not be asked to open another file.
+/// An opener is an object that opens files by their names, and closes them. Each file is read from its beginning. Once
+/// the opener has failed to open a file, it must not be asked to open another file.
 pub trait Opener {
     /// The type of an open file.
     type File: Source + Drop;
 
-    // The names of all files that the opener was asked to open so far. The value is `None` if the contract of the
-    // opener does not state these names.
+    // The names of all files that the opener has been asked to open. The value is `None` if the contract of the opener
+    // does not state these names.
     ghost opened: { Self → Option (List Name) };
 
     // The value is 1 if the opener could not open a file, and otherwise 0.
     ghost failures: { Self → ℕ };
 
-    // The value is 1 if a file had failed when it was closed, and otherwise 0.
+    // The value is 1 if a read from a file had failed before the file was closed, and otherwise 0.
     ghost lost: { Self → ℕ };
 
     // The number of files that the opener has opened and not closed. The value is always 0 if the opener does not count
@@ -50,7 +50,7 @@ pub trait Opener {
             (λ _. unclosed self.new ≤ unclosed self.old) }
         ensures others { (lost self.new ≡ lost self.old) × (holds self.new ≡ holds self.old) };
 
-    /// Closes the file `file`. The value `lost` of the opener becomes 1 if the file has failed.
+    /// Closes the file `file`. If a read from the file has failed, the value `lost` of the opener becomes 1.
     fn close(&mut self, file: Self::File)
         ensures sound { Self.File.failures file ≡ 0 → lost self.new ≡ lost self.old }
         ensures lost { Self.File.failures file ≡ 1 → lost self.new ≡ 1 }
@@ -60,8 +60,9 @@ pub trait Opener {
             × (holds self.new ≡ holds self.old) };
 }
 
-/// An opener for the files of the file system. Its contracts state neither which files were opened nor the contents of
-/// these files. However, the contracts state whether a file could not be opened, and whether a read from a file failed.
+/// An opener for the files of the file system. The contracts of this opener state neither which files were opened nor
+/// the contents of these files. However, the contracts state whether a file could not be opened, and whether a read
+/// from a file failed.
 #[derive(Drop)]
 pub struct Disk<'a, R> {
     files: &'a R,
@@ -78,7 +79,8 @@ impl<'a, R> Model for Disk<'a, R> {
 }
 
 impl<'a, R: Files> Disk<'a, R> {
-    /// Creates an opener that uses `files` to open files. So far, every file could be opened, and no file has failed.
+    /// Creates an opener that uses `files` to open files. The new opener has not failed to open a file, and no read
+    /// from a file has failed.
     pub fn new(files: &'a R) -> Disk<'a, R>
         ensures { result ≡ (0, 0) }
     {

@@ -39,9 +39,9 @@ pub struct GivenUp {
     pub status: u8,
 }
 
-/// Opens the inputs of the job (the task that the command line asks for). Then it opens, reads and closes the hide
-/// list, which is a file with the labels to hide. After a file could not be opened, the function opens no other file.
-/// It writes error messages to `e`.
+/// Opens the inputs of the job (the task that the command line asks for). Then the function opens, reads and closes the
+/// hide list, which is a file with the labels to hide. If a file cannot be opened, the function opens no other file
+/// after it. The function writes error messages to `e`.
 ///
 /// # Errors
 ///
@@ -137,9 +137,9 @@ fn open_named<F: Opener, E: Write>(files: &mut F, name: &str, e: &mut E) -> Resu
     }
 }
 
-/// Opens, reads and closes the hide list, which is the file `hide` with the labels to hide. The result has the labels
-/// of the hide list. If `hide` is `None`, there is no hide list, and the result is empty. The possible errors are the
-/// errors of `open_job`.
+/// Opens, reads and closes the hide list, which is the file `hide` with the labels to hide. The result contains the
+/// labels of the hide list. If `hide` is `None`, there is no hide list, and the result is empty. The possible errors
+/// are the errors of `open_job`.
 fn hidden_of<F: Opener, E: Write>(
     alloc: Global,
     files: &mut F,

@@ -1,5 +1,5 @@
-//! This module has the two subcommands of the program. Each of them minimises or compares its inputs, writes error
-//! messages, and returns the exit status.
+//! This module contains one function for each of the two subcommands of the program. Each function minimises or
+//! compares the inputs, writes error messages, and returns the exit status.
 ghost use Rattle.std.specs.Prelude.{◌≡◌, ◌⊎◌, ◌≤◌, IfSome, IsTrue, false};
 ghost use Rattle.autbis.specs.declared.compare.Side.TheVariants.{First, Second};
 ghost use Rattle.autbis.specs.Ends.{EndsRun};
@@ -22,7 +22,7 @@ use std::io::Write;
 /// 0 after a success, 2 if the input is incorrect, 4 if memory ran out, and 5 if the source or the sink failed. If the
 /// status is 2 or 4, neither the source nor the sink has failed, and nothing was written to the sink. An error message
 /// is written to `e`, and may contain the name `name` of the source. After a success, nothing is written to `e` except
-/// for the line of `--stats`. This line is written only if `stats` is true.
+/// for the line that `--stats` asks for. This line is written only if `stats` is true.
 pub fn min_program<R: Source, W: Sink, E: Write>(
     alloc: Global,
     r: &mut R,

@@ -1,4 +1,4 @@
-//! This module reports errors. For each error, it writes an error message and returns the exit status.
+//! This module reports errors. For each error, the module writes an error message and returns the exit status.
 ghost use Rattle.std.specs.Prelude.{◌≡◌, ◌≤◌, IsTrue, OnOk, OnErr};
 ghost use Rattle.std.specs.Io.KnownBytes.{Appends};
 ghost use Rattle.autfmt.specs.Stream.{AppendsPrefix, CountsFailure};
@@ -34,7 +34,7 @@ fn exit_status(f: &Fault) -> u8
     }
 }
 
-/// Writes to `e` that the file `name` cannot be opened, and returns the exit status 5.
+/// Writes to `e` the message that the file `name` cannot be opened, and returns the exit status 5.
 pub fn cannot_open<E: Write>(name: &str, e: &mut E) -> u8
     ensures status { result ≡ 5 }
 {
@@ -42,10 +42,11 @@ pub fn cannot_open<E: Write>(name: &str, e: &mut E) -> u8
     5
 }
 
-/// Writes to `e` why the command line does not lead to a job, and returns the exit status. The status is 3 if an
-/// argument is incorrect or the relation is unknown, and 4 if memory ran out. If the command line asks for help or for
-/// the version, the function writes the requested text to `o` and flushes `o`. In this case, the status is 0 if the
-/// text was written. If the text cannot be written, the status is 5, and an error message is written to `e`.
+/// Writes to `e` a message about the reason `f` why the command line does not lead to a job, and returns the exit
+/// status. The status is 3 if an argument is incorrect or the relation is unknown, and 4 if memory ran out. If the
+/// command line asks for help or for the version, the function writes the requested text to `o` and flushes `o`. In
+/// this case, the status is 0 if the text was written, and nothing is written to `e`. If the text cannot be written,
+/// the status is 5, and an error message is written to `e`.
 pub fn report_words<O: Write, E: Write>(f: &WordFault, o: &mut O, e: &mut E) -> u8
     ensures status { IsWordStatus (O.contents o.old) (O.contents o.new) f.now result }
     ensures silent { result ≤ 1 → e.new ≡ e.old }
@@ -82,7 +83,7 @@ pub fn answer_words<W: Sink, E: Write>(f: &WordFault, w: &mut W, e: &mut E) -> u
     }
 }
 
-/// Writes to `e` that the command line is incorrect, and returns the exit status 3.
+/// Writes to `e` the error message `text` about an incorrect command line, and returns the exit status 3.
 fn report_usage<E: Write>(text: &str, e: &mut E) -> u8
     ensures { result ≡ 3 }
 {
@@ -90,7 +91,7 @@ fn report_usage<E: Write>(text: &str, e: &mut E) -> u8
     3
 }
 
-/// Writes to `e` that no relation has the name `word`, and returns the exit status 3.
+/// Writes to `e` the message that no relation has the name `word`, and returns the exit status 3.
 fn report_unknown<E: Write>(word: &str, e: &mut E) -> u8
     ensures { result ≡ 3 }
 {

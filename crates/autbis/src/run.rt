@@ -21,17 +21,17 @@ pub struct Counts {
 /// Reads a system from the source `r` (the object from which the input is read), and replaces each label in the list
 /// `h` by the internal action `i`. Then it minimises the system modulo `rel`, and writes the quotient to the sink `w`
 /// (the object to which the output is written). The result of `run_min` is the size of the system that was read. The
-/// limits `lim` bound the numbers of states and transitions that the header may declare. The meter `m` counts rounds
-/// and visits (reads of transitions), and must not have counted anything before. If the system has n states and m
-/// transitions, `run_min` makes at most n rounds and at most (rounds + 2) * m visits.
+/// limits `lim` are the largest numbers of states and transitions that the header may declare. The meter `m` counts
+/// rounds and visits (reads of transitions), and must not have counted anything before. The number of rounds is at most
+/// the number of states of the system. The number of visits is at most (rounds + 2) times the number of transitions.
 ///
 /// # Errors
 ///
-/// - `BadHeader` to `MissingEdges`: the input is incorrect, and this is its first error. Neither the source nor the
-///   sink has failed, and nothing was written or counted.
+/// - One of the errors from `BadHeader` to `MissingEdges`: the input is incorrect, and this is its first error. Neither
+///   the source nor the sink has failed, and nothing was written or counted.
 /// - `Device`: the source or the sink failed. If the source failed, nothing was written or counted. If the sink failed,
 ///   a prefix of the output was written.
-/// - `Memory`: an allocation failed, which can happen only after a correct line 1. Neither the source nor the sink has
+/// - `Memory`: an allocation failed, which can happen only if line 1 is correct. Neither the source nor the sink has
 ///   failed, and nothing was written.
 pub fn run_min<M: Meter, R: Source, W: Sink>(
     alloc: Global,
@@ -46,7 +46,7 @@ pub fn run_min<M: Meter, R: Source, W: Sink>(
     requires sink { W.failures w.old ≡ 0 }
     requires fresh { IsFresh (M.counted m.old) }
 
-    // These clauses state what a success means, and when each error is returned.
+    // These clauses state what the call guarantees if it succeeds, and when each error is returned.
     ensures outcome { let asked = asks rel lim.now h.now in
         let source = used R.rest R.failures r.old r.new in
         let sink = used W.written W.failures w.old w.new in

@@ -1,5 +1,5 @@
-//! Writes the line of `--stats`, which has the size of the system, and the numbers of rounds and visits (reads of
-//! transitions) of the minimisation.
+//! Writes the line that `--stats` asks for, which contains the size of the system, and the numbers of rounds and visits
+//! (reads of transitions) of the minimisation.
 ghost use Rattle.std.specs.Prelude.{◌≡◌, ◌≤◌, ◌+◌, ◌++◌, length, take, decimal};
 ghost use Rattle.lts.specs.Meter as meter;
 ghost use Rattle.autfmt.specs.Stream.{AppendsPrefix};
@@ -14,14 +14,14 @@ use lts::Meter;
 use quotient::Relation;
 use std::io::Write;
 
-/// The number of bytes that are reserved for a number with its name: at most 16 bytes for the name, and at most 40
-/// digits.
+/// The number of bytes that are reserved for each value in the line: at most 16 bytes for the name before the value,
+/// and at most 40 digits for the value itself.
 const COUNT: usize = 56;
 
-/// The number of bytes that are reserved for the line: five numbers with their names, and a line feed.
+/// The number of bytes that are reserved for the line, which contains five values with their names, and a line feed.
 const LINE: usize = 281;
 
-/// Writes the line of `--stats` to `e` (the stream for error messages). Failed writes are ignored.
+/// Writes to `e` (the stream for error messages) the line that `--stats` asks for. Failed writes are ignored.
 pub fn show_stats<M: Meter, E: Write>(counts: Counts, rel: Relation, m: &M, e: &mut E)
     requires { (M.counted m.now).rounds ≤ counts.states }
     ensures line { AppendsPrefix (E.contents e.old) (E.contents e.new)
@@ -32,7 +32,8 @@ pub fn show_stats<M: Meter, E: Write>(counts: Counts, rel: Relation, m: &M, e: &
     say(&line[..end], e);
 }
 
-/// Writes the line of `--stats` to the beginning of the buffer. Returns the index after the last byte of the line.
+/// Writes to the beginning of the buffer the line that `--stats` asks for. Returns the index after the last byte of the
+/// line.
 fn spell_stats(
     buffer: &mut [u8],
     counts: Counts,

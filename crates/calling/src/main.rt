@@ -1,7 +1,7 @@
-//! An example of a program that calls the libraries. The program reads a system from standard input. It writes the size
-//! of this system, the size of the smallest equivalent system, and the blocks of states before the first round of
-//! refinement and after each round that splits a block. It also writes whether the system is equivalent to a system
-//! that describes a buffer for one element. In this example, two systems are equivalent if they are branching
+//! An example of a program that calls the libraries. The program reads a system from standard input. The program writes
+//! the size of this system, the size of the smallest equivalent system, and the blocks of states before the first round
+//! of refinement and after each round that splits a block. The program also writes whether the system is equivalent to
+//! a system that describes a buffer for one element. In this example, two systems are equivalent if they are branching
 //! bisimilar.
 #![tactic(auto)]
 

@@ -1,5 +1,5 @@
-//! The tests of this crate, with one file for each subject. The file `running` has the functions that run the examples
-//! of the other files.
+//! The tests of this crate, with one file for each subject. The file `running` contains functions that run examples of
+//! the other files.
 mod commands;
 mod comparisons;
 mod faults;

@@ -7,11 +7,12 @@ use quotient::Relation;
 use std::alloc::Global;
 use test_support::Pair;
 
-/// Two flags, one for each of the two inputs. The flag of an input is true if a part of this input has not been read.
+/// Two flags, one for each of the two inputs of a comparison. The flag of an input is true if a part of this input has
+/// not been read.
 type Left = (bool, bool);
 
-/// What is known after a comparison: its result, two flags that say which inputs were not read to the end, the output,
-/// and the meter, which has counted rounds and visits.
+/// What is known after a comparison: the result, two flags that say which inputs were not read to their ends, the
+/// output, and the meter. The meter has counted the rounds and the visits (reads of transitions).
 type Ran = (Result<bool, CmpFault>, Left, VecSink, Counter);
 
 fn run(alloc: Global, pair: &Pair, relation: Relation) -> Ran {
@@ -64,11 +65,10 @@ fn is_said(same: bool, left: Left, sink: &VecSink, meter: &Counter) -> bool {
         && keeps_to(meter, 9, 7, 1)
 }
 
-/// Returns whether a failed comparison has satisfied its contract. If memory runs out while an input is read, the
-/// comparison must not have written any output, and the meter must not have counted any rounds or visits (counted reads
-/// of transitions). The second input must not be read before the end of the first input. If the sink (the object to
-/// which the output is written) fails to allocate memory, a prefix of the line with the result may be written. After
-/// every other failure, nothing may be written.
+/// Returns whether a failed comparison has satisfied its contract. If memory runs out while an input is read, the meter
+/// must not have counted any rounds or visits (reads of transitions). The second input must not be read before the end
+/// of the first input. If the sink (the object to which the output is written) fails to allocate memory, a prefix of
+/// the line with the result may have been written. After every other failure, nothing may have been written.
 fn is_left(refused: CmpFault, same: bool, left: Left, sink: &VecSink, meter: &Counter) -> bool {
     let CmpFault { side, fault } = refused;
     if fault == Fault::Device {

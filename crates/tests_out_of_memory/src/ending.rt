@@ -15,9 +15,9 @@ pub(crate) enum Ending {
 }
 
 impl Ending {
-    /// Returns `Wrong` if one of the two examples had neither the expected result nor a failed allocation. Otherwise,
-    /// the result is `Refused` if an allocation failed in one of the examples, and `Wanted` if both examples ended with
-    /// the expected result.
+    /// Combines the ways in which two examples ended. The result is `Wrong` if one of the two examples had neither the
+    /// expected result nor a failed allocation. Otherwise, the result is `Refused` if an allocation failed in one of
+    /// the examples, and `Wanted` if both examples ended with the expected result.
     pub(crate) fn and(self, other: Ending) -> Ending {
         match self {
             Ending::Wanted => other,
@@ -26,8 +26,8 @@ impl Ending {
         }
     }
 
-    /// Rates an example in which no allocation failed. The argument `is_right` says whether the result of the example
-    /// is correct. If it is correct, the call returns `Wanted`, and otherwise `Wrong`.
+    /// Returns the verdict on an example in which no allocation failed. If the result of the example is correct
+    /// (`is_right`), the verdict is `Wanted`, and otherwise `Wrong`.
     pub(crate) fn wanted_if(is_right: bool) -> Ending {
         if is_right {
             Ending::Wanted
@@ -36,8 +36,8 @@ impl Ending {
         }
     }
 
-    /// Returns the verdict on an example in which an allocation failed. The argument `is_right` says whether the
-    /// example satisfied its contract. If it did, the call returns `Refused`, and otherwise `Wrong`.
+    /// Returns the verdict on an example in which an allocation failed. If the example satisfied its contract
+    /// (`is_right`), the verdict is `Refused`, and otherwise `Wrong`.
     pub(crate) fn refused_if(is_right: bool) -> Ending {
         if is_right {
             Ending::Refused

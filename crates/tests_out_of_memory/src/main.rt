@@ -1,8 +1,8 @@
 //! Worked examples in memory, for the script `tests/refused-calls/try`, which runs this program many times and makes a
-//! different allocation fail each time. The exit status is 0 if each example ended with the expected result. It is 4 if
-//! an allocation failed in some example and all examples satisfied their contracts. In this case, the program writes
-//! the message that `autbis` writes if memory runs out. Otherwise the exit status is 1, and the program writes the
-//! names of the examples that had neither the expected result nor a failed allocation.
+//! different allocation fail each time. The exit status is 0 if each example ended with the expected result. The exit
+//! status is 4 if an allocation failed in some example and all examples satisfied their contracts. In this case, the
+//! program writes the message that `autbis` writes if memory runs out. In all other cases, the exit status is 1, and
+//! the program writes the names of the examples that had neither the expected result nor a failed allocation.
 #![tactic(auto)]
 
 mod comparisons;
@@ -36,8 +36,8 @@ fn status<E: Write>(ending: Ending, e: &mut E) -> u8 {
 }
 
 /// Runs all examples. The result is `Wrong` if an example had neither the expected result nor a failed allocation.
-/// Otherwise, it is `Refused` if an allocation failed in some example, and `Wanted` if every example ended with the
-/// expected result.
+/// Otherwise, the result is `Refused` if an allocation failed in some example, and `Wanted` if every example ended with
+/// the expected result.
 fn all<E: Write>(alloc: Global, e: &mut E) -> Ending {
     let mut worst = said("streams", streams::ending(alloc), e);
     for example in &EXAMPLES {
@@ -50,7 +50,7 @@ fn all<E: Write>(alloc: Global, e: &mut E) -> Ending {
 }
 
 /// Minimises the example modulo strong and modulo branching bisimilarity. The result is `Wrong` if a minimisation had
-/// neither the expected result nor a failed allocation. Otherwise, it is `Refused` if an allocation failed, and
+/// neither the expected result nor a failed allocation. Otherwise, the result is `Refused` if an allocation failed, and
 /// `Wanted` if both minimisations ended with the expected result.
 fn minimised<E: Write>(alloc: Global, example: &Example, e: &mut E) -> Ending {
     let mut worst = Ending::Wanted;
@@ -62,8 +62,8 @@ fn minimised<E: Write>(alloc: Global, example: &Example, e: &mut E) -> Ending {
 }
 
 /// Compares the two systems in `pair` modulo strong and modulo branching bisimilarity. The result is `Wrong` if a
-/// comparison had neither the expected result nor a failed allocation. Otherwise, it is `Refused` if an allocation
-/// failed, and `Wanted` if both comparisons ended with the expected result.
+/// comparison had neither the expected result nor a failed allocation. Otherwise, the result is `Refused` if an
+/// allocation failed, and `Wanted` if both comparisons ended with the expected result.
 fn compared<E: Write>(alloc: Global, pair: &Pair, e: &mut E) -> Ending {
     let mut worst = Ending::Wanted;
     for relation in RELATIONS {

@@ -16,8 +16,8 @@ pub(crate) fn ending(alloc: Global, example: &Example, relation: Relation) -> En
     }
 }
 
-/// What is known after a minimisation: its result, whether a part of its input was not read, the output, and the meter,
-/// which has counted rounds and visits (reads of transitions).
+/// What is known after a minimisation: the result, whether a part of the input was not read, the output, and the meter.
+/// The meter has counted the rounds and the visits (reads of transitions).
 type Ran = (Result<Counts, Fault>, bool, VecSink, Counter);
 
 fn run(alloc: Global, text: &[u8], hidden: &Hidden, relation: Relation) -> Ran {
@@ -58,10 +58,10 @@ fn is_counted(example: &Example, has_more: bool, meter: &Counter) -> bool {
     keeps_to(meter, example.states, example.transitions, 2)
 }
 
-/// Returns whether a minimisation ended correctly. This is the case if the whole output was written (`Wanted`), or if
-/// an allocation failed and nothing was written (`Refused`). It is also the case if the sink (the object to which the
-/// output is written) failed to allocate memory, and a prefix of the output was written (`Refused`). In all other
-/// cases, the result is `Wrong`.
+/// Returns how a minimisation ended. The result is `Wanted` if the whole output was written. The result is `Refused` if
+/// an allocation failed and nothing was written. The result is also `Refused` if the sink (the object to which the
+/// output is written) failed to allocate memory, and a prefix of the output was written. In all other cases, the result
+/// is `Wrong`.
 fn of_answer(answer: Result<Counts, Fault>, has_more: bool, sink: &VecSink, out: &[u8]) -> Ending {
     let (bytes, failures) = (sink.bytes(), sink.failures());
     match answer {

@@ -1,6 +1,6 @@
-//! Runs two examples. In the first example, an input has an error in line 1, which is found without allocating memory.
-//! In the second example, a sink (the object to which the output is written) stores its bytes in memory, and allocates
-//! memory twice.
+//! Runs two examples. In the first example, each of two inputs has an error in line 1. The reader finds these errors
+//! without allocating memory. In the second example, the output is written to a sink that stores its bytes in memory,
+//! and that allocates memory twice. A sink is an object to which an output is written.
 use crate::ending::Ending;
 use autfmt::{Fault, Limits, Sink, SliceSource, VecSink, put_all, read};
 use lts::{Counter, Lts};
@@ -10,8 +10,8 @@ use test_support::STEP;
 const LONG: [u8; 10_000] = [b'x'; 10_000];
 
 /// Runs both examples. The name of the first example is `header-fault-needs-no-memory`. The result is `Wrong` if an
-/// example ended with an incorrect result. Otherwise, it is `Refused` if an allocation failed, and `Wanted` if both
-/// examples ended with the expected result.
+/// example ended with an incorrect result. Otherwise, the result is `Refused` if an allocation failed, and `Wanted` if
+/// both examples ended with the expected result.
 pub(crate) fn ending(alloc: Global) -> Ending {
     let long = is_fault(alloc, &LONG, Fault::LineTooLong(1));
     let none = is_fault(alloc, b"des (0,0,0)\n", Fault::NoStates);
@@ -27,8 +27,8 @@ fn is_fault(alloc: Global, text: &[u8], fault: Fault) -> bool {
 }
 
 /// Writes to a sink (the object to which the output is written) that stores its bytes in memory. Returns `Wanted` if
-/// the sink has stored all bytes. Returns `Refused` if an allocation failed, and the sink still has exactly the bytes
-/// of the earlier writes. In all other cases, the result is `Wrong`.
+/// the sink has stored all bytes. Returns `Refused` if an allocation failed, and the sink still contains exactly the
+/// bytes of the earlier writes. In all other cases, the result is `Wrong`.
 fn of_sink(alloc: Global) -> Ending {
     let mut sink = VecSink::new(alloc, None);
     let Ok(()) = put_all(&mut sink, STEP) else {

@@ -9,13 +9,13 @@ use refine::{Branching, Strong};
 use std::alloc::Global;
 use std::test::Fail;
 
-/// State 0 has a signature of 8 pairs (label ID, block ID). Inert steps lead to state 0 from the states 1 and 2. The
-/// signature of each of these two states has one more pair.
+/// The signature of state 0 consists of 8 pairs (label ID, block ID). Inert steps lead from the states 1 and 2 to state
+/// 0. The signature of each of these two states contains all pairs of the signature of state 0 and one further pair.
 const ONE_PAIR_MORE: &str =
     "0 of 3; 0 a 0; 0 b 0; 0 c 0; 0 d 0; 0 e 0; 0 f 0; 0 g 0; 0 h 0; 1 i 0; 1 x 0; 2 i 0; 2 y 0";
 
-/// Each example has a system, and the text that is expected after two rounds. The text has the signatures in each
-/// round, and the blocks after each round.
+/// Each example consists of a system, and of the text that is expected after two rounds. The text contains the
+/// signatures in each round, and the blocks after each round.
 const TABLES: [Row; 2] = [
     (
         "silent-chain",
@@ -31,8 +31,8 @@ const TABLES: [Row; 2] = [
     ),
 ];
 
-/// Each example has a system, and the text that is expected after one round. The text has the signatures in this round,
-/// and the blocks after this round.
+/// Each example consists of a system, and of the text that is expected after one round. The text contains the
+/// signatures in this round, and the blocks after this round.
 const ONE_ROUND: [Row; 2] = [
     ("cycle-signatures", SILENT_CYCLE, "{(1, 0)}{(1, 0)}1: 0 0\n"),
     (
@@ -131,17 +131,18 @@ const FILLED_TWICE: [Row; 1] = [(
     "{(0, 1)(1, 2)}{(2, 2)}{}{} by 3 visits, {(1, 0)(2, 0)}{(2, 0)}{}{}",
 )];
 
-/// Computing the signatures takes three visits (counted reads of transitions), one for each transition of the system.
+/// Computing the signatures takes three visits (reads of transitions), one for each transition of the system.
 #[test]
 fn silent_beside_visible_filled_twice(rt: HostRuntime) -> Result<(), Fail> {
     let what = Shown::Branching(Made::FilledTwice);
     check_rows(rt.alloc(), what, &FILLED_TWICE)
 }
 
-/// The signature of state 0 has 12 pairs (label ID, block ID). Paths of inert steps lead to state 0 from the states 1
-/// to 6, whose signatures have one or two more pairs. Such a path also leads to state 0 from state 9, whose signature
-/// has five more pairs. The states 7 and 8 have the same signatures as the states 1 and 4, but no path of inert steps
-/// leads from them to state 0.
+/// The signature of state 0 consists of 12 pairs (label ID, block ID). Paths of inert steps lead from the states 1 to 6
+/// to state 0, and the signatures of these states contain the 12 pairs and one or two further pairs. A path of inert
+/// steps leads from state 9 to state 0 as well, and the signature of state 9 contains the 12 pairs and five further
+/// pairs. The states 7 and 8 have the same signatures as the states 1 and 4, but no path of inert steps leads from them
+/// to state 0.
 const FEW_PAIRS_MORE: &str =
     "0 of 10; 0 a 0; 0 b 0; 0 c 0; 0 d 0; 0 e 0; 0 f 0; 0 g 0; 0 h 0; 0 j 0; 0 k 0; 0 l 0; 0 m 0; \
     1 i 0; 1 x 0; 2 i 0; 2 y 0; 3 i 0; 3 x 0; 4 i 1; 4 y 0; 5 i 2; 5 x 0; 6 i 1; 6 i 2; \

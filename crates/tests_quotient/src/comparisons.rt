@@ -114,8 +114,9 @@ pub(crate) fn counted(
     Ok(text)
 }
 
-/// Compares the two systems in `row` for the relation `relation`. If `same` is true, the two systems must be
-/// equivalent. If `same` is false, they must be different. Otherwise, the function fails.
+/// Compares the two systems in `row` for the relation `relation`. If `same` is true, the result must be that the two
+/// systems are equivalent. If `same` is false, the result must be that they are not equivalent. The function fails if
+/// the comparison has another result.
 fn check_verdict(alloc: Global, row: &Row, relation: Relation, same: bool) -> Result<(), Fail> {
     let (name, a, b, _, _) = *row;
     let wanted = if same { "equivalent" } else { "different" };
@@ -139,7 +140,7 @@ fn by_branching_bisimulation(rt: HostRuntime) -> Result<(), Fail> {
 }
 
 /// Comparing the two systems of the example `moment-of-choice` takes 3 rounds. Building the union of the systems takes
-/// 7 visits (counted reads of transitions), and each round takes 7 visits.
+/// 7 visits (reads of transitions), and each round takes 7 visits.
 #[test]
 fn what_a_comparison_counts(rt: HostRuntime) -> Result<(), Fail> {
     let (name, a, b) = ("moment-of-choice", MOMENT_AFTER, MOMENT_BEFORE);

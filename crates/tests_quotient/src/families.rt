@@ -1,13 +1,14 @@
 //! Families of systems for which refinement for branching bisimilarity is hard. The expected results come from an
-//! independent program. Each system is tested twice. In the second test, its states are numbered in reverse order.
+//! independent program. Each system is tested twice. In the second test, the states of the system are numbered in
+//! reverse order.
 use crate::refining::Made;
 use crate::showing::{Shown, check_row};
 use crate::texts::turned;
 use std::alloc::Global;
 use std::test::Fail;
 
-/// An example: its name, its system, and four expected results. Each result has the final blocks and the numbers of
-/// rounds and visits (counted reads of transitions). The first two results are for strong and for branching
+/// An example: its name, its system, and four expected results. Each result consists of the final blocks and of the
+/// numbers of rounds and visits (reads of transitions). The first two results are for strong and for branching
 /// bisimilarity. The other two results are for the same two relations and the system with its states numbered in
 /// reverse order.
 type Family = (&'static str, &'static str, [&'static str; 4]);
@@ -149,8 +150,8 @@ const UNIONS: [Family; 4] = [
 ];
 
 /// In some of these systems, the signatures of several states are unions of signatures, and any two of these unions
-/// differ in only a few pairs. In the other systems, several states have signatures that consist of the pairs of one
-/// long signature and one more pair.
+/// differ in only a few pairs. In the other systems, several states have signatures that result from one long signature
+/// by adding one pair. In the system `own 3`, this long signature already contains the added pair.
 const NEARLY_EQUAL: [Family; 6] = [
     (
         "twins 2",

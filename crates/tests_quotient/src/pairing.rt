@@ -18,7 +18,7 @@ pub(crate) enum Paired {
     /// The blocks after two rounds for strong bisimilarity. The first round uses the first system and starts from one
     /// block. The second round uses the second system.
     Split,
-    /// The union of the systems, and the number of visits (counted reads of transitions) that building the union takes.
+    /// The union of the systems, and the number of visits (reads of transitions) that building the union takes.
     Union,
 }
 

@@ -6,7 +6,7 @@ use quotient::reachable;
 use std::alloc::Global;
 use std::test::Fail;
 
-/// An example: its system, and the expected text.
+/// An example: a system, and the text that is expected for its reachable states.
 type Row = (&'static str, &'static str);
 
 const REACHED: [Row; 8] = [
@@ -23,7 +23,7 @@ const REACHED: [Row; 8] = [
     ("2 of 4; 2 a 3; 0 a 1; 1 a 2", "2 3 by 0 rounds, 1 visits"),
     // Two states of the system are not reachable.
     ("0 of 3; 1 a 2", "0 by 0 rounds, 0 visits"),
-    // The system is a cycle, and one more state with a transition to the cycle.
+    // The system consists of a cycle and of one more state, which has a transition to the cycle.
     (
         "1 of 4; 0 a 1; 1 a 2; 2 a 3; 3 a 1",
         "1 2 3 by 0 rounds, 3 visits",
@@ -40,8 +40,8 @@ const REACHED: [Row; 8] = [
     ),
 ];
 
-/// Returns a text with the reachable states in ascending order, and with the numbers of rounds and visits (counted
-/// reads of transitions).
+/// Returns a text with the reachable states in ascending order, and with the numbers of rounds and visits (reads of
+/// transitions).
 pub(crate) fn shown(alloc: Global, l: &Lts<Counter>) -> Result<String, Memory> {
     let mut m = Counter::new();
     let mut text = String::new(alloc);
@@ -51,8 +51,8 @@ pub(crate) fn shown(alloc: Global, l: &Lts<Counter>) -> Result<String, Memory> {
     Ok(text)
 }
 
-/// Appends the reachable states to the text. Nothing is appended if counting the visits would exceed the limit of the
-/// meter (the counter of rounds and visits).
+/// Appends the reachable states to the text. If the meter (the counter of rounds and visits) has no room for the visits
+/// (reads of transitions), nothing is appended.
 fn append_reached(
     alloc: Global,
     l: &Lts<Counter>,

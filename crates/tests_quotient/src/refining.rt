@@ -10,21 +10,22 @@ use std::alloc::Global;
 /// Says which text about the refinement of a system is computed. A test compares this text with the expected text.
 #[derive(Clone, Copy, Drop)]
 pub(crate) enum Made {
-    /// The final blocks, and the numbers of rounds and visits (counted reads of transitions).
+    /// The final blocks, and the numbers of rounds and visits (reads of transitions).
     Refined,
     /// The blocks after one round that starts from a single block.
     OneRound,
-    /// The blocks after each of the given number of rounds. The first round starts from a single block. The text has a
-    /// line for each round.
+    /// The blocks after each of the given number of rounds. The first round starts from a single block. The text
+    /// contains one line for each round.
     Rounds(u32),
-    /// The same text as for `Rounds`, followed by the numbers of rounds and visits (counted reads of transitions).
+    /// The same text as for `Rounds`, followed by the numbers of rounds and visits (reads of transitions).
     Counted(u32),
     /// The signatures of all states in each of the given number of rounds, and the blocks after each round. The first
-    /// round starts from a single block. The text has a line for each round.
+    /// round starts from a single block. The text contains one line for each round.
     Table(u32),
-    /// The signatures of all states with respect to the blocks after one round, followed by the signatures of all
-    /// states with respect to a single block that contains all states. Both computations use the same buffers, so that
-    /// the second computation finds the results of the first computation in them.
+    /// The signatures of all states with respect to the blocks after one round, the number of visits (reads of
+    /// transitions) that computing them takes, and the signatures of all states with respect to a single block that
+    /// contains all states. Both computations use the same buffers, so that the second computation finds the results of
+    /// the first computation in them.
     FilledTwice,
 }
 
@@ -53,7 +54,7 @@ pub(crate) fn blocks(alloc: Global, p: &Partition) -> Result<String, Memory> {
     Ok(text)
 }
 
-/// Appends the pairs of a signature to the text. Each pair has the ID of a label and the ID of a block.
+/// Appends the pairs of a signature to the text. Each pair consists of the ID of a label and the ID of a block.
 fn append_pairs(alloc: Global, list: &[(u32, u32)], text: &mut String) -> Result<(), Memory> {
     for (label, block) in list {
         text.push_str(&format!(in alloc; "({label}, {block})")?)?;
@@ -76,8 +77,7 @@ fn refined<S: Sense>(alloc: Global, l: &Lts<Counter>) -> Result<String, Memory> 
     counted(alloc, &p, &m)
 }
 
-/// Returns a text with the blocks, and with the numbers of rounds and visits (counted reads of transitions) of the
-/// meter.
+/// Returns a text with the blocks, and with the numbers of rounds and visits (reads of transitions) of the meter.
 fn counted(alloc: Global, p: &Partition, m: &Counter) -> Result<String, Memory> {
     let mut text = blocks(alloc, p)?;
     text.push_str("; ")?;
@@ -91,8 +91,8 @@ pub(crate) fn append_counts(alloc: Global, m: &Counter, text: &mut String) -> Re
 }
 
 /// Runs one round that starts from the blocks of `p`, and returns the new blocks. Returns `p` unchanged if `p` is not a
-/// partition of the states of the system, or if counting the round would exceed the limit of the meter (the counter of
-/// rounds and visits).
+/// partition of the states of the system, or if the meter (the counter of rounds and visits) has no room for the counts
+/// of this round.
 pub(crate) fn next<S: Sense>(
     alloc: Global,
     l: &Lts<Counter>,
@@ -111,8 +111,8 @@ fn one_round<S: Sense>(alloc: Global, l: &Lts<Counter>) -> Result<String, Memory
     blocks(alloc, &p)
 }
 
-/// Returns a text that has, for each of `many` rounds, a line with the blocks after this round. Before the first round,
-/// all states are in one block.
+/// Returns a text that contains, for each of `many` rounds, a line with the blocks after this round. Before the first
+/// round, all states are in one block.
 fn rounds<S: Sense>(
     alloc: Global,
     l: &Lts<Counter>,
@@ -128,8 +128,8 @@ fn rounds<S: Sense>(
     Ok(text)
 }
 
-/// Returns a text with the blocks after each of `many` rounds, and with the numbers of rounds and visits (counted reads
-/// of transitions).
+/// Returns a text with the blocks after each of `many` rounds, and with the numbers of rounds and visits (reads of
+/// transitions).
 fn counted_rounds<S: Sense>(alloc: Global, l: &Lts<Counter>, many: u32) -> Result<String, Memory> {
     let mut m = Counter::new();
     let mut text = rounds::<S>(alloc, l, many, &mut m)?;
@@ -146,7 +146,7 @@ pub(crate) fn append_line(alloc: Global, p: &Partition, text: &mut String) -> Re
 
 /// Computes the signatures of all states with respect to the blocks of `p`, and appends these signatures to the text.
 /// The buffers `marks` and `signatures` are used for the computation, and may contain the results of an earlier
-/// computation. Returns the number of visits (counted reads of transitions).
+/// computation. Returns the number of visits (reads of transitions).
 fn append_filled<S: Sense>(
     alloc: Global,
     l: &Lts<Counter>,
@@ -181,8 +181,8 @@ fn append_signatures(
     Ok(())
 }
 
-/// Appends the signatures of all states to the text. Then splits the blocks of `p` by these signatures, and returns the
-/// new blocks.
+/// Appends the signatures of all states to the text. After this, the function splits the blocks of `p` by these
+/// signatures, and returns the new blocks.
 pub(crate) fn split<S: Sense>(
     alloc: Global,
     l: &Lts<Counter>,
@@ -207,9 +207,10 @@ fn filled_twice<S: Sense>(alloc: Global, l: &Lts<Counter>) -> Result<String, Mem
     Ok(text)
 }
 
-/// Appends to `text` the signatures of all states with respect to the partition `first`, and then the signatures of all
-/// states with respect to the partition `second`. Both computations use the same buffers, so that the second
-/// computation finds the results of the first computation in them.
+/// Appends to `text` the signatures of all states with respect to the partition `first`, the number of visits (reads of
+/// transitions) that computing these signatures took, and the signatures of all states with respect to the partition
+/// `second`. Both computations use the same buffers, so that the second computation finds the results of the first
+/// computation in them.
 fn append_both<S: Sense>(
     alloc: Global,
     l: &Lts<Counter>,
@@ -225,9 +226,10 @@ fn append_both<S: Sense>(
     append_in::<S>(alloc, l, first, second, &mut marks, &mut signatures, text)
 }
 
-/// Appends three parts to `text`: the signatures of all states with respect to the partition `first`, the number of
-/// visits (counted reads of transitions) that computing them took, and the signatures of all states with respect to the
-/// partition `second`. Both computations use the buffers `marks` and `signatures`.
+/// Appends three parts to `text`. The first part is the signatures of all states with respect to the partition `first`.
+/// The second part is the number of visits (reads of transitions) that computing these signatures took. The third part
+/// is the signatures of all states with respect to the partition `second`. Both computations use the buffers `marks`
+/// and `signatures`.
 fn append_in<S: Sense>(
     alloc: Global,
     l: &Lts<Counter>,
@@ -279,8 +281,8 @@ pub(crate) fn append_signature<S: Sense, M: Meter>(
     append_signed::<S, M>(alloc, l, p, &mut marks, &mut out, m, text)
 }
 
-/// Computes the signature of state 0 with respect to the blocks of `p`, and appends it to `out`. Then appends all pairs
-/// in `out` to the text.
+/// Computes the signature of state 0 with respect to the blocks of `p`, and appends it to `out`. After this, the
+/// function appends all pairs in `out` to the text.
 fn append_signed<S: Sense, M: Meter>(
     alloc: Global,
     l: &Lts<M>,

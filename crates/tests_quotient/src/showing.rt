@@ -18,8 +18,8 @@ pub(crate) enum Shown {
     /// The result of refinement for branching bisimilarity.
     Branching(Made),
     /// The strong signature of state 0 with respect to a single block that contains all states, and the number of
-    /// visits (counted reads of transitions). The call that computes the signature appends it to a buffer that already
-    /// contains the given pairs.
+    /// visits (reads of transitions). The call that computes the signature appends it to a buffer that already contains
+    /// the given pairs.
     StrongSigned(&'static [(u32, u32)]),
     /// The blocks after one round for branching bisimilarity, and the signature of state 0 with respect to these
     /// blocks. The call that computes the signature appends it to a buffer that already contains another pair.
@@ -29,7 +29,7 @@ pub(crate) enum Shown {
     StrongThenBranching,
     /// The number of rounds of the minimisation, and the quotient in the short notation of the file `texts`.
     Quotient(Relation),
-    /// The reachable states, and the numbers of rounds and visits (counted reads of transitions) of the search.
+    /// The reachable states, and the numbers of rounds and visits (reads of transitions) of the search.
     Reached,
     /// The system in the short notation of the file `texts`, and the numbers of its transitions and labels.
     System,

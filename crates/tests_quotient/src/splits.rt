@@ -8,8 +8,9 @@ use refine::Strong;
 use std::alloc::Global;
 use std::test::Fail;
 
-/// An example has one or two systems, and the blocks that are expected after one round for each system. If there is
-/// only one system, the second text is empty.
+/// An example consists of one or two systems, and of the blocks that are expected after one round with the first
+/// system, followed by one round with the second system. If there is only one system, the second text is empty, and
+/// there is no second round.
 type Row = (&'static str, &'static str, &'static str);
 
 const SPLITS: [Row; 9] = [
@@ -45,9 +46,9 @@ const SPLITS: [Row; 9] = [
         "",
         "2: 0 0 1 0 0",
     ),
-    // If the pairs of one signature are a prefix of the pairs of a longer signature, the two signatures are different.
-    // The signature of a state does not depend on the order of its transitions: the states 1 and 4 share a block,
-    // although their transitions are listed in different orders.
+    // If one signature contains all pairs of another signature and further pairs, the two signatures are different. The
+    // signature of a state does not depend on the order of its transitions: the states 1 and 4 share a block, although
+    // their transitions are listed in different orders.
     (
         "0 of 6; 0 a 0; 1 a 0; 1 b 0; 2 b 0; 4 b 0; 4 a 0; 5 b 0",
         "",

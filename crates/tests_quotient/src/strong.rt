@@ -7,8 +7,8 @@ use refine::Strong;
 use std::alloc::Global;
 use std::test::Fail;
 
-/// The expected result of four rounds. It has a line with the blocks after each round, and the numbers of rounds and
-/// visits (counted reads of transitions).
+/// The expected result of four rounds. The result consists of a line with the blocks after each round, and of the
+/// numbers of rounds and visits (reads of transitions).
 const ROUNDS: [Row; 1] = [(
     "chain-rounds",
     CHAIN_OF_THREE,
@@ -61,8 +61,7 @@ fn chain_filled_twice(rt: HostRuntime) -> Result<(), Fail> {
 }
 
 /// Returns a text with the signature of state 0 with respect to a single block that contains all states, and with the
-/// number of visits (counted reads of transitions). The call that computes the signature appends it to the pairs in
-/// `stood`.
+/// number of visits (reads of transitions). The call that computes the signature appends it to the pairs in `stood`.
 pub(crate) fn signed(
     alloc: Global,
     l: &Lts<Counter>,
@@ -75,9 +74,9 @@ pub(crate) fn signed(
     Ok(text)
 }
 
-/// Computes the signature of state 0 with respect to a single block that contains all states, and appends the signature
-/// to the text. Nothing is appended if counting the visits would exceed the limit of the meter (the counter of rounds
-/// and visits).
+/// Computes the signature of state 0 with respect to a single block that contains all states. Appends the pairs in
+/// `stood` to the text, followed by the signature. If the meter (the counter of rounds and visits) has no room for the
+/// visits (reads of transitions), nothing is appended.
 fn append_first(
     alloc: Global,
     l: &Lts<Counter>,

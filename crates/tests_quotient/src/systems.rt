@@ -1,5 +1,5 @@
 //! Tests of the label table, of systems in memory, of the union of two systems, and of the meter, which counts rounds
-//! and visits (counted reads of transitions).
+//! and visits (reads of transitions).
 use crate::pairing::{Paired, check_pair};
 use crate::showing::{Shown, check_row};
 use crate::texts::{append_spelled, system};
@@ -70,8 +70,8 @@ fn numbers_labels(rt: HostRuntime) -> Result<(), Fail> {
     )
 }
 
-/// Counts two rounds and a visit. If these counts would exceed the limit of the meter (the counter of rounds and
-/// visits), the function counts nothing.
+/// Counts two rounds and one visit (read of a transition) with the meter. If the meter has no room for these counts,
+/// the function counts nothing.
 fn count<M: Meter>(m: &mut M) {
     if m.has_room(2, 1) {
         m.start_round();
@@ -140,8 +140,7 @@ fn groups_by_source(rt: HostRuntime) -> Result<(), Fail> {
     check_row(rt.alloc(), Shown::System, "grouped", text, wanted)
 }
 
-/// Returns the number of visits (counted reads of transitions) that `visit_rest` makes if the meter has counted nothing
-/// before.
+/// Returns the number of visits (reads of transitions) that `visit_rest` makes if the meter has counted nothing before.
 fn rest_visits(l: &Lts<Counter>) -> u128 {
     let mut m = Counter::new();
     if m.has_room(1, u128::from(l.edges())) {
@@ -158,8 +157,8 @@ fn visits_the_rest(rt: HostRuntime) -> Result<(), Fail> {
 
 /// The predecessor index has an entry for each transition. The entries are ordered by the targets of the transitions.
 /// Returns two ranges of entries: the range of the entries of all transitions to the state `t`, and the range of the
-/// entries of the internal transitions to `t`. Both ranges are empty if the system has no state `t`, or if counting the
-/// visits would exceed the limit of the meter (the counter of rounds and visits).
+/// entries of the internal transitions to `t`. Both ranges are empty if the system has no state `t`, or if the meter
+/// (the counter of rounds and visits) has no room for the visits (reads of transitions).
 fn entries_of(alloc: Global, l: &Lts<Counter>, t: u32) -> Result<[(u32, u32); 2], Memory> {
     let mut m = Counter::new();
     if t >= l.states() || !m.has_room(0, u128::from(l.edges())) {
@@ -181,8 +180,8 @@ fn knows_what_leads_to_states(rt: HostRuntime) -> Result<(), Fail> {
 }
 
 /// Builds the predecessor index, which has an entry for each transition, and removes the first entry of the internal
-/// transitions to the state `t`. Then returns the range of the entries of all transitions to `t`, and the range of the
-/// remaining entries of the internal transitions to `t`.
+/// transitions to the state `t`. After this, the function returns the range of the entries of all transitions to `t`,
+/// and the range of the remaining entries of the internal transitions to `t`.
 fn entries_without(alloc: Global, l: &Lts<Counter>, t: u32) -> Result<[(u32, u32); 2], Memory> {
     let mut m = Counter::new();
     if t >= l.states() || !m.has_room(0, u128::from(l.edges())) {
@@ -211,8 +210,8 @@ fn forgets_an_internal_transition(rt: HostRuntime) -> Result<(), Fail> {
 }
 
 /// Builds the predecessor index, and then clears the set of visited transitions that the call returned together with
-/// the index. Returns the number of visits (counted reads of transitions) that building the index takes, whether the
-/// set is empty before the function clears it, and whether the set is empty afterwards.
+/// the index. Returns the number of visits (reads of transitions) that building the index takes, whether the set is
+/// empty before the function clears it, and whether the set is empty afterwards.
 fn visits_of_index(alloc: Global, l: &Lts<Counter>) -> Result<(u128, bool, bool), Memory> {
     let mut m = Counter::new();
     if !m.has_room(0, u128::from(l.edges())) {
@@ -233,8 +232,8 @@ fn visits_each_place_for_the_index(rt: HostRuntime) -> Result<(), Fail> {
     )
 }
 
-/// Returns a text with the union in the short notation of the file `texts`, and with the number of visits (counted
-/// reads of transitions).
+/// Returns a text with the union in the short notation of the file `texts`, and with the number of visits (reads of
+/// transitions).
 pub(crate) fn joined(alloc: Global, a: &Lts<Counter>, b: &Lts<Counter>) -> Result<String, Memory> {
     let mut m = Counter::new();
     let mut text = String::new(alloc);
@@ -243,8 +242,8 @@ pub(crate) fn joined(alloc: Global, a: &Lts<Counter>, b: &Lts<Counter>) -> Resul
     Ok(text)
 }
 
-/// Appends the union to the text. Nothing is appended if the union is too large, or if counting the visits would exceed
-/// the limit of the meter (the counter of rounds and visits).
+/// Appends the union to the text. Nothing is appended if the union is too large, or if the meter (the counter of rounds
+/// and visits) has no room for the visits (reads of transitions).
 fn append_joined(
     alloc: Global,
     a: &Lts<Counter>,
@@ -259,8 +258,8 @@ fn append_joined(
     append_shown(alloc, &l, text)
 }
 
-/// The label tables of the two systems have different orders. Building the union makes one visit (counted read) of each
-/// of the four transitions.
+/// The label tables of the two systems have different orders. Building the union takes four visits (reads of
+/// transitions), one for each transition.
 #[test]
 fn joins_by_bytes(rt: HostRuntime) -> Result<(), Fail> {
     let (a, b) = ("1 of 2; 0 a 1; 1 i 0", "0 of 2; 1 i 1; 0 b 1");

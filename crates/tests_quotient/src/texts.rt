@@ -73,7 +73,7 @@ fn step(part: &str) -> Option<(u32, &str, u32)> {
     Some((source.parse().ok()?, label, target.parse().ok()?))
 }
 
-/// Returns the text that denotes the same system with its states numbered in reverse order. Parts of the text that
+/// Returns the text that denotes the same system, but with the states numbered in reverse order. Parts of the text that
 /// denote no transition are left out.
 pub(crate) fn turned(alloc: Global, text: &str) -> Result<String, Memory> {
     let mut turned = String::new(alloc);
@@ -115,8 +115,8 @@ fn append_row(alloc: Global, l: &Lts<Counter>, s: u32, text: &mut String) -> Res
     Ok(())
 }
 
-/// Appends to the text the transition with the index `k` in the list of all transitions. Its source is the state `s`.
-/// If there is no transition with this index, nothing is appended.
+/// Appends to the text the transition with the index `k` in the list of all transitions. The source of this transition
+/// is the state `s`. If there is no transition with this index, nothing is appended.
 fn append_edge(
     alloc: Global,
     l: &Lts<Counter>,

@@ -122,8 +122,8 @@ fn command_words(rt: HostRuntime) -> Result<(), Fail> {
 }
 
 /// The result for a command line that runs no subcommand. Such a command line asks for help or for the version, or it
-/// is incorrect. The result has the error that `command` returns, the exit status, the help text that is written to
-/// standard output, and the message on standard error.
+/// is incorrect. The result consists of the error that `command` returns, the exit status, the help text that is
+/// written to standard output, and the message on standard error.
 #[derive(Drop)]
 struct Answer {
     fault: WordFault,
@@ -153,8 +153,8 @@ fn reported(alloc: Global, fault: WordFault) -> Answer {
     }
 }
 
-/// Command lines that name a relation which does not exist. Each entry has the command line, the name of the relation,
-/// and the message.
+/// Command lines that name a relation which does not exist. Each entry consists of the command line, the name of the
+/// relation, and the message.
 const NO_RELATIONS: [(&str, &str, &str); 4] = [
     (
         "autbis min a.aut --relation=weak",

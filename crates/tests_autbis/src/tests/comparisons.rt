@@ -105,16 +105,17 @@ const ONLY_A: &[u8] = b"des (0,1,2)\n(0,a,1)\n";
 
 const ONLY_B: &[u8] = b"des (0,1,2)\n(0,b,1)\n";
 
-/// The indices at which the first source, the second source and the sink fail. A source or sink that never fails has
-/// the index `None`. A source is what an input is read from, and a sink is what the output is written to.
+/// The numbers of bytes after which the first source, the second source and the sink fail. Such a number is `None` if
+/// the source or sink never fails. A source is an object from which an input is read, and a sink is an object to which
+/// an output is written.
 type Places = (Option<usize>, Option<usize>, Option<usize>);
 
 /// The result of a comparison, its output, and the meter, which has counted its rounds and visits (reads of
 /// transitions).
 type Ran = (Result<bool, CmpFault>, VecSink, Counter);
 
-/// Compares the two systems after hiding the labels in `hidden`. The sources (from which the inputs are read) and the
-/// sink (to which the output is written) fail at the indices in `places`.
+/// Compares the two systems after hiding the labels in `hidden`. The two sources (objects from which the inputs are
+/// read) and the sink (the object to which the output is written) fail after the numbers of bytes in `places`.
 fn compare(
     alloc: Global,
     texts: (&[u8], &[u8]),
@@ -150,8 +151,9 @@ fn compares(
     answer == wanted && sink.bytes() == out
 }
 
-/// Compares the two systems in `pair` for the relation `rel`. If `same` is true, the two systems must be equivalent. If
-/// `same` is false, they must be different. Otherwise, the function fails.
+/// Compares the two systems in `pair` for the relation `rel`. If `same` is true, the result must be that the two
+/// systems are equivalent. If `same` is false, the result must be that they are not equivalent. The function fails if
+/// the comparison has another result.
 fn check_verdict(alloc: Global, pair: &Pair, rel: Relation, same: bool) -> Result<(), Fail> {
     let (texts, none) = ((pair.first, pair.second), (None, None, None));
     let out = if same { TRUE } else { FALSE };
@@ -171,7 +173,7 @@ fn verdicts(rt: HostRuntime) -> Result<(), Fail> {
 }
 
 /// Hides the labels of the hide list in a system, and minimises the result. Returns the sink (the object to which the
-/// output is written), which then has the quotient.
+/// output is written), which then contains the quotient.
 fn quotient(alloc: Global, text: &[u8], list: &[u8], rel: Relation) -> Result<VecSink, Fault> {
     let hidden = read_hidden(alloc, &mut SliceSource::new(list, None))?;
     let (answer, sink, _) = run_hiding(alloc, text, &hidden, rel);
@@ -214,9 +216,9 @@ fn no_smaller_system(rt: HostRuntime) -> Result<(), Fail> {
     Ok(())
 }
 
-/// An example of a comparison that fails: its name, both inputs, the indices at which the sources and the sink fail,
-/// the part of the comparison in which the error occurs, the error, and the output. A source is what an input is read
-/// from, and the sink is what the output is written to.
+/// An example of a comparison that fails: its name, both inputs, the numbers of bytes after which the sources and the
+/// sink fail, the part of the comparison in which the error occurs, the error, and the output. A source is an object
+/// from which an input is read, and the sink is the object to which the output is written.
 type Failing = (
     &'static str,
     &'static [u8],
@@ -324,7 +326,7 @@ fn rounds_and_visits(rt: HostRuntime) -> Result<(), Fail> {
 }
 
 /// Runs a comparison whose first input has an error. Returns true if the comparison fails without reading anything from
-/// the second source. A source is what an input is read from.
+/// the second source. A source is an object from which an input is read.
 fn leaves_second(alloc: Global) -> bool {
     let mut other = SliceSource::new(IN_ORDER, None);
     let answer = run_cmp(
@@ -340,8 +342,8 @@ fn leaves_second(alloc: Global) -> bool {
     answer.is_err() && starts_with(&mut other, IN_ORDER)
 }
 
-/// Reads from the source (the object from which the input is read). Returns true if the source had not failed before,
-/// and it returns eight bytes that are a prefix of the text.
+/// Reads eight bytes from the source (the object from which the input is read). Returns true if the source had not
+/// failed before, and these eight bytes are a prefix of the text.
 fn starts_with(source: &mut SliceSource, text: &[u8]) -> bool {
     let mut piece = [0u8; 8];
     source.failures() == 0 && source.take(&mut piece).unwrap_or(0) == 8 && text.starts_with(&piece)
@@ -478,8 +480,8 @@ fn compared(
     (status, sink, said)
 }
 
-/// Runs the program that compares two inputs. Returns true if it ends with the exit status, the output and the message
-/// in `row`.
+/// Runs the program that compares two inputs. Returns true if the program ends with the exit status, the output and the
+/// message in `row`.
 fn is_compared(alloc: Global, row: &Compared) -> bool {
     let (_, one, other, relation, list, status, out, message) = *row;
     let Ok(hidden) = read_hidden(alloc, &mut SliceSource::new(list, None)) else {

@@ -43,8 +43,8 @@ fn refused_texts(rt: HostRuntime) -> Result<(), Fail> {
     Ok(())
 }
 
-/// Each entry has a range of lengths, and an error. If the input `two-equal-targets` is cut to a length in this range,
-/// the minimisation of this input must end with this error.
+/// Each entry consists of a range of lengths and an error. If the input `two-equal-targets` is cut to a length in this
+/// range, the minimisation of this input must end with this error.
 const CUTS: [(usize, usize, Fault); 5] = [
     (0, 12, Fault::BadHeader),
     (13, 14, Fault::MissingEdges(0)),
@@ -65,8 +65,8 @@ fn cut_texts(rt: HostRuntime) -> Result<(), Fail> {
 }
 
 /// Fails unless the minimisation ends with the error `fault` and writes `out`. Either the source (the object from which
-/// the input is read) fails at the index `place`, or the sink (the object to which the output is written) fails at the
-/// index `count`.
+/// the input is read) fails after `place` bytes, or the sink (the object to which the output is written) fails after
+/// `count` bytes.
 fn check_failing(
     alloc: Global,
     text: &[u8],

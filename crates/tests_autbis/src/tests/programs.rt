@@ -9,8 +9,8 @@ use std::marker::Model;
 use std::test::Fail;
 use test_support::{LONE_STATE_TEXT, STEP, TWO_EQUAL_TARGETS_TEXT, check};
 
-/// Files in memory. Each entry has the name of a file, its contents, and the number of bytes after which reading the
-/// file fails. This number is `None` if reading the file never fails.
+/// Files in memory. Each entry consists of the name of a file, the contents of this file, and the number of bytes after
+/// which reading the file fails. This number is `None` if reading the file never fails.
 const FILES: [(&str, &[u8], Option<usize>); 8] = [
     ("two.aut", TWO_EQUAL_TARGETS_TEXT, None),
     ("lone.aut", LONE_STATE_TEXT, None),
@@ -162,8 +162,8 @@ const ENDS: [Ends; 17] = [
 ];
 
 /// Returns true if the program ends with the exit status, the output and the message in the row. In addition, the
-/// opener (by which the program opens and closes files) must have recorded a failed file if and only if reading a file
-/// failed.
+/// opener (the object that opens and closes the files) must have recorded a failed read if and only if a read from a
+/// file has failed.
 fn ends(alloc: Global, row: &Ends) -> Result<bool, AllocError> {
     let (line, status, out, message) = *row;
     let mut shelf = Shelf {
@@ -234,7 +234,7 @@ fn no_file(rt: HostRuntime) -> Result<(), Fail> {
 }
 
 /// The command line gives the name of a folder instead of a file. The program must report that the folder cannot be
-/// opened, or that reading it failed. The operating system determines which of the two happens.
+/// opened, or that a read failed. It depends on the operating system which of the two messages is written.
 #[test]
 fn folder(rt: HostRuntime) -> Result<(), Fail> {
     let (status, output, said) = ended(&mut Disk::new(&rt), rt.alloc(), "autbis/min/.", None)?;

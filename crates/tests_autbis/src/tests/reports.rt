@@ -7,8 +7,8 @@ use std::alloc::{AllocError, Global};
 use std::test::Fail;
 use test_support::{Example, HIDDEN_QUOTED, SILENT_DETOUR, TWO_EQUAL_TARGETS_TEXT, check};
 
-/// All errors that an input or a hide list can have. Each entry has the error, and the message that is written after
-/// the name of the file.
+/// All errors that an input or a hide list can have. Each entry consists of the error, and of the message that is
+/// written after the name of the file.
 const MESSAGES: [(Fault, &str); 14] = [
     (Fault::BadHeader, "bad header"),
     (Fault::FirstState, "first state out of range"),
@@ -66,7 +66,7 @@ fn other_messages(rt: HostRuntime) -> Result<(), Fail> {
 }
 
 /// Runs `min_program` modulo strong bisimilarity and with `--stats`. Returns the exit status, the output, and the
-/// message. The source (the object from which the input is read) fails at the index `place`.
+/// message. The source (the object from which the input is read) fails after `place` bytes.
 fn ran(
     alloc: Global,
     text: &[u8],
@@ -91,8 +91,8 @@ fn ran(
     (status, sink, said)
 }
 
-/// An example: an input, the index at which its source (the object from which the input is read) fails, the exit
-/// status, and the message.
+/// An example: an input, the number of bytes after which its source (the object from which the input is read) fails,
+/// the exit status, and the message.
 type Faulty = (&'static [u8], Option<usize>, u8, &'static [u8]);
 
 const FAULTY: [Faulty; 3] = [
@@ -132,7 +132,7 @@ fn faulty_texts(rt: HostRuntime) -> Result<(), Fail> {
 const COUNTED: [Example; 2] = [SILENT_DETOUR, HIDDEN_QUOTED];
 
 /// Returns the line that `--stats` must write for the example, if refinement takes two rounds and the run makes
-/// `visits` visits (counted reads of transitions).
+/// `visits` visits (reads of transitions).
 fn stats(alloc: Global, example: &Example, visits: u32) -> Result<String, AllocError> {
     let (n, m) = (example.states, example.transitions);
     let most = u64::from(m) * 4;
@@ -140,9 +140,9 @@ fn stats(alloc: Global, example: &Example, visits: u32) -> Result<String, AllocE
     format!(in alloc; "stats: {counts} visits {visits} allowance {most}\n")
 }
 
-/// Returns true if the message is the line of `--stats` for the example with two rounds. Let m be the number of
-/// transitions of the system. The number of visits (counted reads of transitions) in the line must be at least 2 * m
-/// and at most 4 * m.
+/// Returns true if the message `said` is the line that `--stats` asks for in a minimisation of the example with two
+/// rounds. Let m be the number of transitions of the system. The number of visits (reads of transitions) in the line
+/// must be at least 2 * m and at most 4 * m.
 fn shows_counts(alloc: Global, example: &Example, said: &[u8]) -> Result<bool, AllocError> {
     let transitions = example.transitions.min(6);
     for visits in 2 * transitions..=4 * transitions {
@@ -153,7 +153,7 @@ fn shows_counts(alloc: Global, example: &Example, said: &[u8]) -> Result<bool, A
     Ok(false)
 }
 
-/// Fails if the program does not write the quotient of the example, or does not write the line of `--stats`.
+/// Fails if the program does not write the quotient of the example, or does not write the line that `--stats` asks for.
 fn check_counts(alloc: Global, example: &Example) -> Result<(), Fail> {
     let hidden = read_hidden(alloc, &mut SliceSource::new(example.hide, None))?;
     let (status, sink, said) = ran(alloc, example.text, None, "a.aut", &hidden);

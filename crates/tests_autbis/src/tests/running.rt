@@ -1,6 +1,6 @@
-//! Functions that run the examples of the other files. They minimise inputs, and check that the minimisation ends with
-//! the expected error or output. Sources (the object from which the input is read) and sinks (the object to which the
-//! output is written) may fail.
+//! Functions that run examples of the other files. These functions minimise inputs, and check that each minimisation
+//! ends with the expected error or output. Sources (objects from which an input is read) and sinks (objects to which
+//! the output is written) may fail.
 use autbis::{Counts, run_min};
 use autfmt::{Fault, Hidden, Limits, SliceSource, VecSink, read_hidden};
 use lts::{Counter, Meter};
@@ -19,9 +19,10 @@ pub(crate) type End<'a> = (Option<Fault>, &'a [u8]);
 /// transitions).
 pub(crate) type Ran = (Result<Counts, Fault>, VecSink, Counter);
 
-/// The relation of a minimisation, the index at which its source fails, the index at which its sink fails, and the
-/// largest number of bytes that the source returns or the sink accepts in one call. The source is what the input is
-/// read from, and the sink is what the output is written to. An index is `None` if the source or the sink never fails.
+/// The relation of a minimisation, the number of bytes after which its source fails, the number of bytes after which
+/// its sink fails, and the largest number of bytes that the source returns or the sink accepts in one call. The source
+/// is the object from which the input is read, and the sink is the object to which the output is written. The number of
+/// bytes after which the source or the sink fails is `None` if it never fails.
 #[derive(Clone, Copy, Drop)]
 pub(crate) struct Flow {
     pub(crate) relation: Relation,
@@ -31,7 +32,8 @@ pub(crate) struct Flow {
 }
 
 /// Returns a `Flow` whose source (the object from which the input is read) and sink (the object to which the output is
-/// written) never fail, and move at most `piece` bytes in one call.
+/// written) never fail. The source returns at most `piece` bytes in one call, and the sink accepts at most `piece`
+/// bytes in one call.
 fn sound(relation: Relation, piece: usize) -> Flow {
     Flow {
         relation,
@@ -97,8 +99,9 @@ fn check_pieces(
     Ok(())
 }
 
-/// Reads the hide list `list` (the labels to hide), and then checks by `check_pieces` how the minimisation ends after
-/// hiding these labels. If the list cannot be read, the expected error is the error that reading the list returns.
+/// Reads the hide list `list` (the labels to hide). Then the function calls `check_pieces`, which checks how the
+/// minimisation ends after these labels have been hidden. If the list cannot be read, the expected error is the error
+/// that reading the list returns.
 pub(crate) fn check_hiding(
     alloc: Global,
     name: &str,
@@ -140,8 +143,8 @@ pub(crate) fn run_hiding(alloc: Global, text: &[u8], hidden: &Hidden, relation: 
     run(alloc, text, hidden, sound(relation, usize::MAX))
 }
 
-/// A visit is a counted read of a transition. Returns true if the meter has counted exactly `rounds` rounds, at least
-/// `rounds * transitions` visits, and at most `most` visits.
+/// A visit is a read of a transition that the meter counts. Returns true if the meter has counted exactly `rounds`
+/// rounds, at least `rounds * transitions` visits, and at most `most` visits.
 pub(crate) fn is_within(meter: &Counter, rounds: u32, transitions: u32, most: u128) -> bool {
     let least = u128::from(rounds) * u128::from(transitions);
     meter.rounds() == u128::from(rounds) && least <= meter.visits() && meter.visits() <= most

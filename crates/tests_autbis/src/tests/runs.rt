@@ -149,12 +149,12 @@ fn by_branching_bisimulation(rt: HostRuntime) -> Result<(), Fail> {
     Ok(())
 }
 
-/// The relation of a minimisation, the expected number of rounds, and the largest number of visits (counted reads of
+/// The relation of a minimisation, the expected number of rounds, and the largest number of visits (reads of
 /// transitions).
 type Counted = (Relation, u32, u128);
 
 /// Returns true if a minimisation writes `out`, returns the size of the system that it reads, and makes the expected
-/// numbers of rounds and visits (counted reads of transitions).
+/// numbers of rounds and visits (reads of transitions).
 fn has_counts(alloc: Global, text: &[u8], out: &[u8], counts: Counts, counted: Counted) -> bool {
     let (relation, rounds, most) = counted;
     let (answer, sink, meter) = run_hiding(alloc, text, &Hidden::none(alloc), relation);
@@ -173,7 +173,7 @@ const COUNTED: [(Example, Counted); 7] = [
     (SILENT_DETOUR, (Relation::Branching, 2, 84)),
 ];
 
-/// Returns true if a minimisation of the example makes the expected numbers of rounds and visits (counted reads of
+/// Returns true if a minimisation of the example makes the expected numbers of rounds and visits (reads of
 /// transitions).
 fn is_counted(alloc: Global, example: &Example, counted: Counted) -> bool {
     let counts = Counts {
@@ -230,8 +230,8 @@ fn mixed(alloc: Global, blank: &str) -> Result<String, AllocError> {
     Ok(text)
 }
 
-/// When a block is split, its largest part keeps the ID of the block. If the largest part got a new ID, this test would
-/// take two minutes, which is longer than a test may take.
+/// When a block is split, its largest part keeps the ID of the block. If the largest part got a new ID instead, this
+/// test would take two minutes, which is longer than a test may take.
 #[test]
 fn deep_chain(rt: HostRuntime) -> Result<(), Fail> {
     let text = mixed(rt.alloc(), "")?;

@@ -50,8 +50,8 @@ module _ (g : Over) (c : After-equivalent g) where
   law : OrderLaws
   law = search rules
 
-  -- If a verdict (whether two systems are equivalent) is correct for the two systems in memory, then it is also correct
-  -- for the two systems that the inputs describe.
+  -- A verdict states whether two systems are equivalent. If a verdict is correct for the two systems in memory, then
+  -- the same verdict is correct for the two systems that the inputs describe.
   verdict : (same : Bool) →
       (IsTrue same ↔ Equivalent c.args.rel (system_of c.in_ok-first.first) (system_of c.in_ok-second.second)) →
       IsVerdict asked both same
@@ -60,7 +60,7 @@ module _ (g : Over) (c : After-equivalent g) where
 
   -- A meter counts rounds and visits (reads of transitions). Suppose that the refinement of the union of the two
   -- systems in memory takes as many rounds as the meter has counted. Suppose also that the counted visits are within
-  -- the bounds for this union (`StaysWithin`). Then both facts also hold for the union of the two systems that the
+  -- the bounds for this union (`StaysWithin`). Then the same two facts hold for the union of the two systems that the
   -- inputs describe.
   counted : (let at = g.M.Meter.counted c.equivalent.new.m in
       let k = length c.in_ok-first.first.places + length c.in_ok-second.second.places in

@@ -5,8 +5,8 @@ use Rattle.autbis.proofs.Ending.{list_unread}
 use Rattle.autbis.proofs.InOrder.{all_closed}
 use Rattle.autbis.proofs.opening.hidden_of.Goals as goal
 
--- The prover can also find this proof by itself. The proof is given here nevertheless, because the prover then rejects
--- incorrect code faster.
+-- The prover could find this proof by itself, so the proof could be left out. With the proof, however, the prover
+-- rejects incorrect code faster.
 pub returns-in-Ok-clause-labels : goal.returns-in-Ok-clause-labels
 returns-in-Ok-clause-labels g c = search rules
 

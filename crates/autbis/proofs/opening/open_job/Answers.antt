@@ -7,8 +7,8 @@ use Rattle.autbis.proofs.opening.open_job.Given.{Over}
 use Rattle.autbis.proofs.opening.open_job.Goals as goal
 use Rattle.autbis.proofs.opening.open_job.Goals.{After-hidden_of, in-Min, in-Min-2}
 
--- The hide list (the file with the labels to hide) that was read is the hide list that the job (the task that the
--- command line asks for) names.
+-- A job is the task that the command line asks for, and a hide list is a file with the labels to hide. The hide list
+-- that was read is the hide list that the job names.
 asked_is : (g : Over) (c : After-hidden_of g) → option_map string_bytes c.match-job.hide.now ≡ hide_of c.args.job.now
 asked_is g c =
     elim c.match-job.branch [ in-Min w ↦ grind (arith, common_steps) | in-Min-2 w ↦ grind (arith, common_steps) ]

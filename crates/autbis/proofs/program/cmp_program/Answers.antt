@@ -3,8 +3,8 @@ use Rattle.autbis.specs.Runs.{asks, used}
 use Rattle.autbis.proofs.Ending.{ends_cmp, ends_verdict}
 use Rattle.autbis.proofs.program.cmp_program.Goals as goal
 
--- `status same` is the exit status of a comparison that has not failed. It is 0 if the systems are equivalent, and 1 if
--- they are not equivalent.
+-- `status same` is the exit status of a comparison that has not failed. The exit status is 0 if the systems are
+-- equivalent, and 1 if they are not equivalent.
 abbrev status : Bool → ℕ
 status same = if same then 0 else 1
 
