@@ -29,9 +29,9 @@ module _ (A : System) (none : (s t : ℕ) → ¬ Internal A s t) where
   alike : (one two : Relation) → SameSignatures one two A A
   alike one two = search (rules, shown)
 
--- Suppose that the system has no internal label, and that refinement computes strong signatures. Then the last blocks
--- of refinement are the classes of states that are branching bisimilar, and refinement for branching bisimilarity takes
--- the same number of rounds.
+-- Suppose that the label table of a system does not contain the internal label. If the blocks are the classes of
+-- strongly bisimilar states, then they are also the classes of branching bisimilar states. If refinement for strong
+-- bisimilarity takes r rounds, then refinement for branching bisimilarity also takes r rounds.
 module _ {l : Grouped} {labels : List (List ℕ)} (numbered : (l : Grouped) (s : ℕ) (a : List ℕ) (t : ℕ) → IsLts l →
     Step (system_of l) s a t → (k : ℕ) × IsLabelId l.labels k a) (lts : IsLts l) (read : labels ≡ l.labels)
     (absent : ¬ Contains labels internal) where

@@ -7,29 +7,30 @@ use Rattle.lts.specs.Meter.{Counts, IsFresh, Costs, on_ok}
 use Rattle.lts.specs.Lts.{Grouped, system_of}
 use Rattle.quotient.specs.Visits.{StaysWithin, quotient_passes, union_passes}
 
--- Suppose that the result of a call has the property P if the call succeeds, and that it has the property Q if the call
--- succeeds. Then the result has both properties if the call succeeds.
+-- Two clauses about the result of a call can be combined into one clause. Suppose that, by the first clause, a
+-- successful call returns a value with the property P. Suppose that, by the second clause, a successful call returns a
+-- value with the property Q. Then a successful call returns a value that has both properties.
 pub IfOk-both : {T E : Type 0} (result : Result T E) (P Q : T → Type 0) → IfOk result P → IfOk result Q →
     IfOk result (λ x. P x × Q x)
 IfOk-both (Ok x) P Q p q = (p, q)
 IfOk-both (Err e) P Q p q = tt
 
--- A visit is a counted read of a transition. Suppose that a minimisation makes the rounds of one refinement, and then
--- two passes over all transitions. Then the numbers of rounds and visits are within the bounds for a minimisation
--- (`StaysWithin`).
+-- A visit is a read of a transition that the meter counts. Suppose that a minimisation makes r rounds of refinement,
+-- each of which makes as many visits as there are transitions. Suppose that the minimisation then makes two passes over
+-- the transitions. Then the numbers of rounds and visits are within the bounds for a minimisation (`StaysWithin`).
 pub minimised_keeps : {T E : Type 0} {old one at : Counts} (states k r : ℕ) (result : Result T E) → IsFresh old →
     r ≤ states → Costs old one r (r * k) (r * k) → Costs one at 0 0 (quotient_passes * k) →
     StaysWithin states k quotient_passes at (on_ok result (at.rounds * k))
 minimised_keeps states k r (Ok x) fresh low turns build = search rules
 minimised_keeps states k r (Err e) fresh low turns build = search rules
 
--- A comparison first builds the union of two systems, and then refines the partition of the union. This module proves
--- bounds on the number of visits (counted reads of transitions) of both steps together.
+-- A comparison first builds the union of two systems, and then refines the partition of the union. The following lemmas
+-- prove bounds on the number of visits (reads of transitions that the meter counts) of both steps together.
 module _ (a b u : Grouped) (same : system_of u ≡ union_of (system_of a) (system_of b)) (old mid at : Counts)
     (fresh : IsFresh old)
     (union : Costs old mid 0 (length a.places + length b.places) (length a.places + length b.places)) (r : ℕ)
     (low : r ≤ u.states) where
-  -- The number of transitions of both systems together.
+  -- `both` is the number of transitions of both systems together.
   abbrev pub both : ℕ
   both = length a.places + length b.places
 
@@ -39,15 +40,15 @@ module _ (a b u : Grouped) (same : system_of u ≡ union_of (system_of a) (syste
       places : length u.places ≡ length a.places + length b.places
       places = let e = ap (λ s. length s.transitions) same in search (rules, e, length-map, length-append)
 
-  -- The numbers of rounds and visits (counted reads of transitions) of a comparison are at most the upper bounds for a
-  -- comparison. This is true even if the refinement fails.
+  -- The numbers of rounds and visits (reads of transitions that the meter counts) of a comparison are within the bounds
+  -- for a comparison (`StaysWithin`). This is true even if the refinement fails.
   pub compared_keeps : (visits least : ℕ) → Costs mid at r visits (r * length u.places) → least ≤ both + visits →
       StaysWithin (a.states + b.states) both union_passes at least
   compared_keeps visits least turns more =
       let few : r ≤ a.states + b.states = omega (arith, low, ap (λ s. s.states) same) in search (rules, few, all)
 
-  -- If the refinement succeeds, the number of visits (counted reads of transitions) is exactly (r + 1) * m. Here, r is
-  -- the number of rounds, and m is the number of transitions of both systems together.
+  -- Suppose that the refinement succeeds after r rounds, and that both systems together have m transitions. Then the
+  -- comparison has made exactly (r + 1) * m visits (reads of transitions that the meter counts).
   pub rounds_keep : Costs mid at r (r * length u.places) (r * length u.places) →
       StaysWithin (a.states + b.states) both union_passes at ((at.rounds + union_passes) * both)
   rounds_keep turns =

@@ -1,11 +1,11 @@
--- The definitions in this file bound the numbers of rounds and visits (counted reads of transitions) that the functions
--- of this crate make. A meter counts rounds and visits. The public contracts of this crate cite these definitions.
+-- The definitions in this file bound the numbers of rounds and visits (reads of transitions that the meter counts) that
+-- the functions of this crate make. The public contracts of this crate cite these definitions.
 use Rattle.std.specs.Prelude.{ℕ, ◌+◌, ◌*◌, ◌≤◌}
 use Rattle.lts.specs.Meter.{Counts}
 
--- `quotient_passes` is the number of passes over the transitions that minimisation makes in addition to the rounds of
--- refinement. The first pass finds the reachable states, and the second pass builds the quotient. Each pass visits each
--- transition at most once.
+-- `quotient_passes` is the number of passes over the transitions that a minimisation makes in addition to the rounds of
+-- refinement. There are two such passes. The first pass finds the reachable states, and the second pass builds the
+-- quotient. Each pass visits (reads) each transition at most once.
 abbrev pub quotient_passes : ℕ
 quotient_passes = 2
 
@@ -14,9 +14,9 @@ quotient_passes = 2
 abbrev pub union_passes : ℕ
 union_passes = 1
 
--- `StaysWithin` holds for the numbers of rounds and visits (counted reads of transitions) on a meter under three
--- conditions. Let r be the number of rounds, and let m be the number of transitions. First, r is at most `states`.
--- Second, the number of visits is at least `least`. Third, the number of visits is at most (r + `passes`) * m.
+-- `StaysWithin` is about a meter that has counted r rounds and v visits (reads of transitions that the meter counts).
+-- It holds if all three of the following conditions hold. First, r is at most `states`. Second, v is at least `least`.
+-- Third, v is at most (r + `passes`) * `transitions`.
 pub record StaysWithin (states transitions passes : ℕ) (at : Counts) (least : ℕ) : Type 0 where
   pub few_rounds : at.rounds ≤ states
   pub at_least : least ≤ at.visits

@@ -16,11 +16,13 @@ use std::alloc::Global;
 /// limits for a system. The meter counts rounds of refinement and visits (reads of transitions), and must not have
 /// counted anything before.
 ///
-/// The number of rounds is the number of rounds that the refinement of the union of the two systems takes. It is at
-/// most the number of states of both systems. All transitions of both systems are visited once to build the union, and
-/// once in each round.
+/// The number of rounds is the number of rounds that the refinement of the union of the two systems takes. This number
+/// is at most the number of states of both systems together. If there are `r` rounds, and both systems together have
+/// `m` transitions, the number of visits is `(r + 1) * m`: building the union makes `m` visits, and each round makes
+/// `m` visits.
 ///
-/// If `equivalent` fails, the meter has counted at most these numbers of rounds and visits.
+/// If `equivalent` fails, the number of rounds is still at most the number of states of both systems together. If the
+/// meter has counted `r` rounds before the failure, the number of visits is at most `(r + 1) * m`.
 pub fn equivalent<M: Meter>(
     alloc: Global,
     a: &Lts<M>,

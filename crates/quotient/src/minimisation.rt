@@ -16,13 +16,14 @@ use std::alloc::Global;
 
 /// Returns the quotient of a system. The quotient is the smallest system that is equivalent to the given system.
 ///
-/// The quotient has a state for each class of bisimilar reachable states. The class of the first state of the system
-/// becomes the state 0 of the quotient. The other classes follow in the order of their least reachable members.
+/// The quotient has one state for each class of bisimilar reachable states. The class of the first state of the system
+/// becomes the state 0 of the quotient. The other classes become the states 1, 2 and so on, in the order of their least
+/// reachable members.
 ///
 /// The meter counts rounds of refinement and visits (reads of transitions), and must not have counted anything before.
-/// On success, the number of rounds is the number of rounds that the refinement of the system takes. If there are `r`
-/// rounds and `m` transitions, the number of visits is at least `r * m` and at most `(r + 2) * m`. If `minimise` fails,
-/// the number of visits is still at most `(r + 2) * m`.
+/// If `minimise` succeeds, the number of rounds is the number of rounds that the refinement of the system takes. If
+/// there are `r` rounds and `m` transitions, the number of visits is at least `r * m` and at most `(r + 2) * m`. If
+/// `minimise` fails after `r` rounds, the number of visits is still at most `(r + 2) * m`.
 pub fn minimise<M: Meter>(
     alloc: Global,
     l: &Lts<M>,
@@ -41,8 +42,8 @@ pub fn minimise<M: Meter>(
     ensures no_larger { IfOk result
         (λ q. (q.states ≤ l.now.states) × (length q.places ≤ length l.now.places)) }
 
-    // These clauses are about the numbers of rounds and visits (reads of transitions). The clause `turns` holds on
-    // success, and the clause `keeps` always holds.
+    // The two clauses below are about the numbers of rounds and visits (reads of transitions). The clause `turns` holds
+    // if the call succeeds, and the clause `keeps` always holds.
     ensures turns { OnOk result (Turns r (system_of l.now) (M.counted m.new).rounds) }
     ensures keeps { let at = M.counted m.new in let k = length l.now.places in
         StaysWithin l.now.states k quotient_passes at (on_ok result (at.rounds * k)) }

@@ -1,7 +1,8 @@
--- The loop of `number` goes through the states in ascending order, and gives them class numbers. The class number of a
--- reachable state is the number of the quotient state that represents it. The lemmas of this file are about the
--- invariant of this loop (`Taken`). The invariant holds before the loop. If it holds before a state gets its class
--- number, it still holds afterwards. After the last state, the invariant implies that all class numbers are correct.
+-- The loop of `number` goes through the states in ascending order, and assigns class numbers to them. The class number
+-- of a reachable state is the number of the quotient state that represents this state. The lemmas of this file are
+-- about the invariant of this loop (`Taken`). The invariant holds before the loop. If it holds before the loop
+-- processes a state, it still holds afterwards. After the last state, the invariant implies that all class numbers are
+-- correct.
 use Rattle.std.proofs.Common.{◌≡◌, ◌≢◌, ◌∙◌, ◌⊎◌, ◌↔◌, ℕ, ◌+◌, ◌<◌, ◌≤◌, Bool, IsTrue, [], ◌∷◌, length}
 use Rattle.std.proofs.Common.{slice_index, replicate, set, refl, sym, ap, subst, inl, inr, arith}
 use Rattle.std.proofs.lemmas.Grind.{common_steps}
@@ -19,34 +20,34 @@ use Rattle.quotient_core.specs.declared.numbering.TheConstants.{NONE}
 use Rattle.theory.proofs.CallerLemmas.{is_leader_itself}
 
 module _ {b : ℕ} {reached : Bool} {old new : Numbers} (takes : TakesState b reached old new) where
-  -- The table `by_block` has the class number of each block, which is the number of the quotient state that represents
-  -- the reachable states of the block. When a state gets its class number, this table keeps its length, and at most one
-  -- class is added to the list of classes.
+  -- The table `by_block` contains the class number of each block, which is the number of the quotient state that
+  -- represents the reachable states of the block. When the loop processes a state, this table keeps its length, and at
+  -- most one class is added to the list of classes.
   pub TakesState-room : (length new.by_block.items ≡ length old.by_block.items)
       × (length old.classes.items ≤ length new.classes.items)
       × (length new.classes.items ≤ length old.classes.items + 1)
   TakesState-room = grind (arith, length-set {A = ℕ}, length_push {X = ℕ}, takes.classes)
 
-  -- Suppose that a state has just been given its class number, which is the number of the quotient state that
-  -- represents it. Then at most one entry was added to the list of classes: the block of this state, at the end of the
-  -- list. All other entries of the list are the same as before.
+  -- The list of classes contains the block ID of each class. Suppose that the loop has just processed a state of the
+  -- block b. Then at most one entry was added to the list of classes: the block ID b, at the end of the list. All other
+  -- entries of the list are the same as before.
   pub class_at : (i : ℕ) → i < length new.classes.items → ((i < length old.classes.items)
       × (slice_index new.classes.items i ≡ slice_index old.classes.items i))
       ⊎ (IsTrue reached × (slice_index old.by_block.items b ≡ NONE) × (i ≡ length old.classes.items)
       × (slice_index new.classes.items i ≡ b))
   class_at i l = grind (arith, common_steps, takes.classes)
 
--- `Other` holds under three conditions. First, the state m is a leader. Second, m is less than s. Third, m is not the
--- first state of the system. The leader of the class of the first state is the first state. The leader of any other
--- class is the smallest reachable state of this class.
+-- `Other` holds if all three of the following conditions hold. First, the state m is a leader, which is a state that
+-- represents its class (`IsLeader`). Second, m is less than the number s. Third, m is not the first state of the
+-- system.
 abbrev pub Other : Relation → System → ℕ → ℕ → Type 0
 Other rel A s m = IsLeader rel A m × (m < s) × (m ≢ A.first)
 
--- `Laws` collects the assumptions of the proofs below. The first assumption (`same`) is that two states share a block
--- if and only if they are bisimilar. The assumptions `number` and `classes` say how the quotient numbers its classes.
--- The last four assumptions are about the number of leaders that are less than a given state and differ from the first
--- state (`Other`). The leader of the class of the first state is the first state. The leader of any other class is the
--- smallest reachable state of this class.
+-- `Laws` collects the assumptions of the proofs below. The assumption `same` is that two states share a block if and
+-- only if they are bisimilar. The assumption `number` is that each reachable state has a class number, which is the
+-- number of the quotient state that represents this state. The assumption `classes` is that two reachable states have
+-- the same class number if and only if they are bisimilar. The last four assumptions are about the number of leaders
+-- (states that represent their classes) that are less than a given state and differ from the first state (`Other`).
 pub record Laws (rel : Relation) (A : System) (block : ℕ → ℕ) : Type 0 where
   pub same : EachTwo A (λ s t. (block s ≡ block t) ↔ Bisimilar rel A s A t)
   pub system : IsSystem A
@@ -61,19 +62,22 @@ pub record Laws (rel : Relation) (A : System) (block : ℕ → ℕ) : Type 0 whe
       HowMany (Other rel A (l + 1)) c
   pub all : (c : ℕ) → HowMany (Other rel A A.states) c → HowMany (IsLeader rel A) (1 + c)
 
--- `number_at` is the entry that the table `by_block` has for the block of the state t. The entry is the class number of
--- this block, which is the number of the quotient state for the block. If the block has no class number yet, the entry
--- is `NONE`.
+-- `number_at` is the entry that the table `by_block` of n contains for the block of the state t. The entry is the class
+-- number of this block, which is the number of the quotient state that represents the reachable states of the block. If
+-- the block has no class number yet, the entry is `NONE`.
 abbrev pub number_at : (ℕ → ℕ) → Numbers → ℕ → ℕ
 number_at block n t = slice_index n.by_block.items (block t)
 
--- `Taken` is the invariant of the loop that gives class numbers to the states. The class number of a reachable state is
--- the number of the quotient state that represents it. The class number of a block is the number of the quotient state
--- that represents the reachable states of the block. The invariant holds after all states less than s have been given
--- their class numbers. It says that the class number of each reachable state less than s is the class number of its
--- block. In the list of classes, the entry at the index of this class number is the ID of this block. The block of the
--- first state has the class number 0. The number of classes is 1 plus the number of leaders that are less than s and
--- differ from the first state. If the first state is less than s, there are at most s classes.
+-- `Taken` is the invariant of the loop that assigns class numbers to the states. The class number of a reachable state
+-- is the number of the quotient state that represents this state. The class number of a block is the number of the
+-- quotient state that represents the reachable states of the block. The invariant is about the data n of the loop after
+-- the loop has processed all states that are less than s. It holds if all six of the following conditions hold. First,
+-- the list of class numbers contains one entry for each state less than s. If such a state is reachable, the entry is
+-- the class number of its block. Second, if a block has a class number, this number is correct. Third, the list of
+-- classes contains the ID of each such block at the index that equals the class number of the block. Fourth, the block
+-- of the first state has the class number 0. Fifth, the number of classes is 1 plus the number of leaders (states that
+-- represent their classes) that are less than s and differ from the first state. Sixth, if the first state is less than
+-- s, there are at most s classes.
 pub record Taken (rel : Relation) (A : System) (block : ℕ → ℕ) (s : ℕ) (n : Numbers) : Type 0 where
   pub numbers_long : length n.numbers.items ≡ s
   pub first : number_at block n A.first ≡ 0
@@ -97,8 +101,8 @@ module _ (rel : Relation) (A : System) (block : ℕ → ℕ) (laws : Laws rel A 
       let same : n ≡ own.0 = (laws.classes u t n own.0 wu wt h own.1).1 ((share u t wu wt).0 e) in
       subst (Number rel A t) (sym same) own.1
 
-  -- The following lemmas are about the step in which the loop gives the state s its class number, which is the number
-  -- of the quotient state that represents s.
+  -- The following lemmas are about the step in which the loop assigns a class number to the state s. The class number
+  -- of s is the number of the quotient state that represents s.
   module _ (s : ℕ) (old new : Numbers) (reached : Bool) (is_reached : IsTrue reached ↔ Reachable A s)
       (ls : s < A.states) (low : s + 1 < NONE) (few : length old.classes.items ≤ s + 1)
       (within : block s < length old.by_block.items) (h : Taken rel A block s old)
@@ -118,8 +122,9 @@ module _ (rel : Relation) (A : System) (block : ℕ → ℕ) (laws : Laws rel A 
       other : s ≢ A.first
       other e = apart (ap block (sym e))
 
-      -- The state s is the leader of its class: it is the smallest reachable state of the class, and the class does not
-      -- contain the first state of the system.
+      -- If the state s is reachable, and its block has no class number yet, then s is the leader of its class, which
+      -- means that s represents this class. The state s is the smallest reachable state of the class, and the class
+      -- does not contain the first state of the system.
       leads : Leader rel A s s
       leads =
           let least = λ (k : ℕ) (fellow : Fellow rel A s k).
@@ -130,10 +135,8 @@ module _ (rel : Relation) (A : System) (block : ℕ → ℕ) (laws : Laws rel A 
           let own = (share s s way way).0 refl in
           inr (λ b. apart (sym ((share s A.first way ([], refl)).1 b)), ((way, own), least))
 
-    -- Suppose that the state s is not reachable, or that its block already has a class number, which is the number of a
-    -- quotient state. Then s is not the leader of its class, unless s is the first state of the system. The leader of
-    -- the class of the first state is the first state. The leader of any other class is the smallest reachable state of
-    -- this class.
+    -- The leader of a class is the state that represents this class. Suppose that the state s is not reachable, or that
+    -- its block already has a class number. Then s is not a leader, unless s is the first state of the system.
     not_other : (IsTrue reached → number_at block old s ≢ NONE) → ¬ (IsLeader rel A s × (s ≢ A.first))
     not_other joins (lead, other) =
         let own : Reachable A s × Leader rel A s s = is_leader_itself rel A laws.system s lead in
@@ -144,9 +147,9 @@ module _ (rel : Relation) (A : System) (block : ℕ → ℕ) (laws : Laws rel A 
         ((share s s own.0 own.0).0 refl) in
         absurd (omega (arith, same, had.0))
 
-    -- A class number is the number of the quotient state that represents a class. When the state s gets its class
-    -- number, the class number of its block stays the same or changes from `NONE` to the next class number. The class
-    -- numbers of all other blocks do not change.
+    -- The table `by_block` contains the class number of each block, or `NONE` if the block has no class number yet.
+    -- When the loop processes the state s, the entry of the block of s stays the same, or changes from `NONE` to the
+    -- next class number. The entries of all other blocks do not change.
     at : (t : ℕ) → ((number_at block new t ≡ number_at block old t) × (block t ≡ block s → IsTrue reached →
         number_at block old t ≢ NONE)) ⊎ (IsTrue reached × (number_at block old s ≡ NONE) × (block t ≡ block s)
         × (number_at block old t ≡ NONE) × (number_at block new t ≡ count))
@@ -155,8 +158,8 @@ module _ (rel : Relation) (A : System) (block : ℕ → ℕ) (laws : Laws rel A 
         let other = get_or-set_other old.by_block.items (block s) (block t) count 0 in
         grind (arith, takes.classes, cases_eq (block t) (block s), same, other)
 
-    -- If the invariant of the loop (`Taken`) holds before the state s gets its class number, then the invariant also
-    -- holds afterwards. The class number of s is the number of the quotient state that represents s.
+    -- Suppose that the invariant of the loop (`Taken`) holds before the loop processes the state s. Then the invariant
+    -- holds afterwards if s is replaced by s + 1.
     pub Taken-adds : Taken rel A block (s + 1) new
     Taken-adds = record {
       numbers_long = rw takes.numbers (omega (arith, length_push {X = ℕ}, h.numbers_long));
@@ -193,9 +196,9 @@ module _ (rel : Relation) (A : System) (block : ℕ → ℕ) (laws : Laws rel A 
           grind (arith, takes.classes, length_push old.classes.items (block s), h.fewer, other, l);
     }
 
-  -- A class number is the number of the quotient state that represents a class. The invariant of the loop (`Taken`)
-  -- holds before the loop gives a class number to any state. At this time, only the block of the first state of the
-  -- system has a class number.
+  -- The invariant of the loop (`Taken`) holds before the loop processes any state. At this time, only the block of the
+  -- first state of the system has a class number, which is 0. The class number of a block is the number of the quotient
+  -- state that represents the reachable states of the block.
   pub Taken-start : (count : ℕ) (n : Numbers) → ((t : ℕ) → t < A.states → block t < count) →
       n.by_block.items ≡ set (replicate count NONE) (block A.first) 0 →
       n.numbers.items ≡ [] → n.classes.items ≡ block A.first ∷ [] → Taken rel A block 0 n

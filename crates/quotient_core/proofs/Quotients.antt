@@ -1,9 +1,10 @@
--- The class number of a state is the number of the quotient state that represents it. Each transition of a state gives
--- a quotient transition of this state: the source and the target of the transition are replaced by their class numbers.
--- If the quotient leaves out the result, it is not a quotient transition. The lemmas of this file prove that the
--- quotient transitions of all reachable states are exactly the transitions of the quotient. They also prove
--- `ShowEachOther`: if no transition of a state is left out, then each quotient transition of another state with the
--- same class number is also a quotient transition of this state.
+-- A quotient transition is a triple (source, label ID, target) that comes from a transition of the system. The source
+-- and the target of this transition are replaced by their class numbers. The class number of a state is the number of
+-- the quotient state that represents this state. If the quotient leaves out the resulting triple, it is not a quotient
+-- transition. The lemmas of this file prove that the quotient transitions of all reachable states are exactly the
+-- transitions of the quotient. The lemmas also prove `ShowEachOther`. Suppose that two states s and t have the same
+-- class number, and that the quotient leaves out no transition of s. Then each quotient transition of t is also a
+-- quotient transition of s.
 use Rattle.std.proofs.Common.{rules, ◌≡◌, ◌≢◌, ◌∙◌, ◌↔◌, ℕ, ◌<◌, ◌≤◌, true, not, List, length, map, [], get_or}
 use Rattle.std.proofs.Common.{Contains, IsPermutation, refl, sym, ap, subst, arith}
 use Rattle.std.specs.List.{AllPairs}
@@ -29,8 +30,8 @@ use Rattle.lts.proofs.CallerLemmas.{contains_mapped, mapped_contains, contains_p
 use Rattle.quotient_core.proofs.Showing.{place_of, shown_place}
 
 -- A triple (source, label ID, target) denotes the transition with this source, this target, and the label with this ID.
--- Suppose that the triples of a list are pairwise different, and that the label table has their label IDs. Then the
--- transitions that these triples denote are pairwise different.
+-- Suppose that the triples of a list are pairwise different, and that the label table contains a label for each of
+-- their label IDs. Then the transitions that these triples denote are pairwise different.
 transitions_differ : (labels : List (List ℕ)) (es : List Triple) → IsTable labels →
     ((x : Triple) → Contains es x → label_of x < length labels) →
     AllPairs (λ x y. x ≢ y) es → AllPairs (λ e f. e ≢ f) (map (transition_of labels) es)
@@ -45,17 +46,18 @@ transitions_differ labels es table within once i j d low high same =
 
 -- Let x be a triple (source, label ID, target), let s and t be states, and let a be the label of x. Suppose that the
 -- source of x equals its target if and only if s and t are bisimilar. Then the quotient drops the transition that x
--- denotes if and only if the step s -a-> t is inert.
+-- denotes if and only if the step s -a-> t is inert (`ShowsNothing`).
 dropped_is : (rel : Relation) (A : System) (labels : List (List ℕ)) (x : Triple) (s t : ℕ) →
     (source_of x ≡ target_of x) ↔ Bisimilar rel A s A t →
     IsDropped rel (transition_of labels x) ↔ ShowsNothing rel A s (text_of labels (label_of x)) t
 dropped_is Strong A labels x s t same = (λ gone. gone, λ gone. gone)
 dropped_is Branching A labels x s t same = (λ h. (h.0, same.0 h.1), λ h. (h.0, same.1 h.1))
 
--- `IsNumbered` states two facts about the program. First, each reachable state of the system g has its class number,
--- which is the number of the quotient state that represents it. Second, the program leaves out a triple (source, label
--- ID, target) if and only if the quotient modulo `rel` drops the transition that the triple denotes (`IsDropped`). All
--- other fields of this record are theorems of the crates `theory` and `lts` about the system g.
+-- `IsNumbered` collects the assumptions of the following lemmas. The field `numbering` says that the program has
+-- assigned the correct class number to each reachable state of the system g. The class number of a state is the number
+-- of the quotient state that represents this state. The field `drops` says that the program leaves out a triple
+-- (source, label ID, target) if and only if the quotient modulo `rel` drops the transition that the triple denotes
+-- (`IsDropped`). All other fields are theorems of the crates `theory` and `lts`.
 pub record IsNumbered (rel : Relation) (g : Grouped) (n : Numbering) : Type 0 where
   pub numbering : IsNumbering rel (system_of g) n
   pub drops : (x : Triple) → label_of x < length g.labels →
@@ -78,7 +80,7 @@ module _ {rel : Relation} {g : Grouped} {n : Numbering} (is : IsNumbered rel g n
   A = system_of g
 
   -- The row of a state is the list of its transitions. If a transition is in the row of a state, its source and its
-  -- target are states of the system, and its label ID is in the label table.
+  -- target are states of the system, and its label ID is the ID of a label in the label table.
   in_range : (s : ℕ) (e : Triple) → Contains (row_of s g.places) e → IsTriple (length g.labels) g.states e
   in_range s e c = All-contains (IsTriple (length g.labels) g.states) g.places e is.lts.in_range.each
       ((is.sources s g.places e).0 c).0
@@ -89,11 +91,12 @@ module _ {rel : Relation} {g : Grouped} {n : Numbering} (is : IsNumbered rel g n
   way_on s e c way = leads_on (AnyStep A) g.first s (target_of e) way (_, (is.steps s _ _).1 (e, c, refl, refl))
 
   module _ (es : List Triple) (shown : HasShown g n (is_reached n) es) (once : AllPairs (λ x y. x ≢ y) es) where
-    -- If a transition leads from u to v, its quotient transition leads from the quotient state that represents u to the
-    -- quotient state that represents v. Let the list `es` have exactly the quotient transitions of all reachable
-    -- states, except those that the quotient leaves out. In each triple (source, label ID, target) of `es`, the source
-    -- and the target are less than the number of classes, and the label ID is in the label table. Each triple comes
-    -- from a step of a reachable state, and the quotient does not drop it.
+    -- A quotient transition is a triple (source, label ID, target) between quotient states that comes from a transition
+    -- of the system, and that the quotient does not leave out. Let the list `es` contain exactly the quotient
+    -- transitions of all reachable states. Then the following holds for each triple in `es`. The source and the target
+    -- of the triple are less than the number of classes, and its label ID is the ID of a label in the label table. The
+    -- triple comes from a step of a reachable state, and the quotient does not drop the transition that the triple
+    -- denotes.
     each_is : (x : Triple) → Contains es x → IsTriple (length g.labels) (length n.classes.items) x
         × IsQuotientStep rel A (transition_of g.labels x) × ¬ IsDropped rel (transition_of g.labels x)
     each_is x c =
@@ -109,10 +112,10 @@ module _ {rel : Relation} {g : Grouped} {n : Numbering} (is : IsNumbered rel g n
           λ gone. both_ways _ stays ((is.drops (between_numbers n s e) (in_range s e in_row).label).1 gone),
         )
 
-    -- If a transition leads from u to v, its quotient transition leads from the quotient state that represents u to the
-    -- quotient state that represents v. Let the list `es` have exactly the quotient transitions of all reachable
-    -- states, except those that the quotient leaves out. If the length of `es` is at most the number of transitions of
-    -- the given system, then `es` satisfies the limits on the size of a system (`InRange`).
+    -- A quotient transition is a triple (source, label ID, target) between quotient states that comes from a transition
+    -- of the system, and that the quotient does not leave out. Let the list `es` contain exactly the quotient
+    -- transitions of all reachable states. Suppose that the length of `es` is at most the number of transitions of the
+    -- given system. Then `es` satisfies the limits on the size of a system (`InRange`).
     pub quotient_in_range : length es ≤ length g.places → InRange (length g.labels) 0 (length n.classes.items) es
     quotient_in_range few = let some = is.numbering.numbered.below g.first
         ((is.numbering.reached g.first).1 ([], refl)) in record {
@@ -122,10 +125,10 @@ module _ {rel : Relation} {g : Grouped} {n : Numbering} (is : IsNumbered rel g n
           each = λ k d l. (each_is (get_or es k d) (Contains-get_or es k d l)).0;
         }
 
-    -- If a transition leads from u to v, its quotient transition leads from the quotient state that represents u to the
-    -- quotient state that represents v. Let the list `es` have exactly the quotient transitions of all reachable
-    -- states, except those that the quotient leaves out. Suppose that the triples in `es` are pairwise different. Then
-    -- the system that is built from `es` is the quotient.
+    -- A quotient transition is a triple (source, label ID, target) between quotient states that comes from a transition
+    -- of the system, and that the quotient does not leave out. Let the list `es` contain exactly the quotient
+    -- transitions of all reachable states. Suppose that the triples in `es` are pairwise different. Then the system
+    -- that is built from `es` is the quotient.
     pub built : (q : Grouped) → IsBuilt 0 (length n.classes.items) g.labels es q → Quotient rel A (system_of q)
     built q made =
         let moved = IsPermutation-sym _ _ (IsPermutation-map (transition_of g.labels) es q.places made.grouping.same) in
@@ -156,12 +159,14 @@ module _ {rel : Relation} {g : Grouped} {n : Numbering} (is : IsNumbered rel g n
         made.states (subst (λ t. IsPermutation (map (transition_of t) q.places) (map (transition_of g.labels) es))
         (sym made.labels) moved) quotient
 
-  -- The class number of a reachable state is the number of the quotient state that represents it. Two reachable states
-  -- have the same class number if and only if they are bisimilar.
+  -- The class number of a reachable state is the number of the quotient state that represents this state. Two reachable
+  -- states have the same class number if and only if they are bisimilar.
   same_is : (s t : ℕ) → Reachable A s → Reachable A t → (number_of n s ≡ number_of n t) ↔ Bisimilar rel A s A t
   same_is s t ws wt = is.classes s t _ _ ws wt (is.numbering.number s ws) (is.numbering.number t wt)
 
-  -- The quotient leaves out a transition of a reachable state if and only if this transition is inert.
+  -- Each transition of a reachable state gives a triple between quotient states (`between_numbers`). The quotient
+  -- leaves out this triple if and only if the transition is inert (`ShowsNothing`). A transition is inert if the
+  -- relation is branching bisimilarity, the transition is internal, and its source and its target are bisimilar.
   inert_is : (s : ℕ) (e : Triple) → Reachable A s → Contains (row_of s g.places) e →
       (is_left_out n.dropped (between_numbers n s e) ≡ true) ↔ ShowsNothing rel A s
       (text_of g.labels (label_of e)) (target_of e)
@@ -170,10 +175,10 @@ module _ {rel : Relation} {g : Grouped} {n : Numbering} (is : IsNumbered rel g n
       let out = is.drops (between_numbers n s e) (in_range s e c).label in
       (λ gone. inert.0 (out.0 gone), λ nothing. out.1 (inert.1 nothing))
 
-  -- If a transition leads from u to v, its quotient transition leads from the quotient state that represents u to the
-  -- quotient state that represents v. Suppose that the same quotient state represents the reachable states s and t, and
-  -- that the quotient leaves out no transition of s. Then each quotient transition of t that the quotient does not
-  -- leave out is also a quotient transition of s.
+  -- The quotient transitions of a state are the triples between quotient states that come from the transitions of this
+  -- state, and that the quotient does not leave out. Suppose that the same quotient state represents the reachable
+  -- states s and t, and that the quotient leaves out no transition of s. Then each quotient transition of t is also a
+  -- quotient transition of s.
   pub show_each_other : ShowEachOther g n
   show_each_other s t ms mt same whole x c =
       let ws = (is.numbering.reached s).0 ms in

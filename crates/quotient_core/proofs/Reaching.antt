@@ -1,6 +1,6 @@
--- Lemmas about the search for the reachable states. They describe how two sets change when the search marks a state or
--- reads the transitions of a state: the set of the marked states, and the set of the transitions that the search may
--- still read.
+-- Lemmas about the search for the reachable states. The lemmas describe how two sets change when the search marks a
+-- state or reads the transitions of a state: the set of the marked states, and the set of the transitions that the
+-- search may still read.
 use Rattle.std.proofs.lemmas.List.{get_or_default, get_or-set_same, get_or-set_other, length-replicate, get_or_past}
 use Rattle.std.proofs.lemmas.List.{length-set, append-nil}
 use Rattle.std.proofs.Common.{◌≢◌, sum_by, ap, ◌≡◌, ◌⊎◌, ℕ, ◌+◌, ◌<◌, Bool, true, false, cond, not, ◌&&◌, eqb, ltb}
@@ -20,20 +20,20 @@ use Rattle.quotient_core.specs.Triples.{rows_of}
 use Rattle.quotient_core.specs.declared.search.Search.{Search}
 use Rattle.quotient_core.proofs.Visits.{visits_then, rows_part, rows_few}
 
--- The search scans the states in the order of their numbers, and has passed all states that are less than `next`.
--- `Follows` holds if the following is true for each marked state u that the scan has passed and that is not in the
--- queue `waiting`. If the relation R leads from u to a state v with some label, then v is marked.
+-- `Follows` holds if the following is true for each marked state u that the scan of the search has passed and that is
+-- not in the queue `waiting`. If the relation R leads from u to a state v with some label, then v is marked. The search
+-- scans the states in ascending order, and has passed all states that are less than `next`.
 abbrev pub Follows : (ℕ → List ℕ → ℕ → Type 0) → List Bool → ℕ → List ℕ → Type 0
 Follows R marked next waiting =
     (u v : ℕ) (a : List ℕ) → u < next → IsMarked marked u → R u a v → Contains waiting u ⊎ IsMarked marked v
 
--- If the list of marks has an entry for each state of the system and no other entries, then each marked state is a
+-- Suppose that the list of marks contains exactly one entry for each state of the system. Then each marked state is a
 -- state of the system.
 pub marked_below : (states : ℕ) (marked : List Bool) (s : ℕ) → length marked ≡ states → IsMarked marked s → s < states
 marked_below states marked s size m = search (rules, both_ways, get_or_past)
 
--- The invariant of the search (`ReadsOnce`) holds when only the first state is marked, the queue is empty, and no
--- transition was read.
+-- Suppose that only the first state is marked, that the queue is empty, and that no transition was read yet. Then the
+-- invariant of the search (`ReadsOnce`) holds.
 pub ReadsOnce-first : (g : Grouped) (at : Counts) → g.first < g.states → Reachable (system_of g) g.first →
     ReadsOnce g (set (replicate g.states false) g.first true) 0 [] at at
 ReadsOnce-first g at below reached = record {
@@ -44,9 +44,8 @@ ReadsOnce-first g at below reached = record {
   visits = search rules;
 }
 
--- The search scans the states in the order of their numbers. The following lemmas are about the step in which the
--- search marks a state t. If t was not marked before, and the scan has already passed t, then the search puts t into
--- the queue.
+-- The search scans the states in ascending order. The following lemmas are about the step in which the search marks a
+-- state t. If t was not marked before, and the scan has already passed t, then the search puts t into the queue.
 module _ {t next : ℕ} {old new : Search} (marks : MarksState t next old new) (l : t < length old.marked.items) where
   -- When the state t is marked, the marks of all other states stay the same.
   pub mark_at : (u : ℕ) → ((u ≡ t) × (get_or new.marked.items u false ≡ true))
@@ -65,8 +64,8 @@ module _ {t next : ℕ} {old new : Search} (marks : MarksState t next old new) (
       let added = Contains-append_right waiting (cond waits (t ∷ []) []) t in
       grind (arith, nat_tests, mark_at u, cases_Bool waits, on u v a, put, added, same, mark_at v)
 
-  -- Suppose that the state s is at the front of the queue, and that the search marks a state t that is reachable if s
-  -- is reachable. Then the invariant of the search (`Searches`) still holds.
+  -- Suppose that the invariant of the search (`Searches`) holds, and that the state s is at the front of the queue.
+  -- Suppose that the search then marks a state t, which is reachable if s is reachable. Then the invariant still holds.
   pub Searches-step : (g : Grouped) (s : ℕ) → (Reachable (system_of g) s → Reachable (system_of g) t) →
       Searches g old.marked.items next (s ∷ old.queue.items) → Searches g new.marked.items next (s ∷ new.queue.items)
   Searches-step g s reached held =
@@ -100,8 +99,8 @@ module _ {t next : ℕ} {old new : Search} (marks : MarksState t next old new) (
   ]
 
 -- The following lemmas assume that the invariant of the search holds (`ReadsOnce`). The invariant implies that the
--- number of visits (counted reads of transitions) is at most the number of transitions that the search no longer has to
--- read.
+-- number of visits (reads of transitions that the meter counts) is at most the number of transitions that the search no
+-- longer has to read.
 module _ {g : Grouped} {marked : List Bool} {next : ℕ} {waiting : List ℕ} {old mid : Counts}
     (reads : ReadsOnce g marked next waiting old mid) where
   pub ReadsOnce-row : {row past : ℕ} {more : List Bool} {left : List ℕ} {new : Counts} → Costs mid new 0 0 row →
@@ -113,9 +112,9 @@ module _ {g : Grouped} {marked : List Bool} {next : ℕ} {waiting : List ℕ} {o
     visits = visits_then reads.visits costs (omega (arith, reads.few, e));
   }
 
-  -- The search scans the states in the order of their numbers. The following lemmas are about the step in which the
-  -- scan passes a marked state, `next`, and puts it into the queue. After this step, the invariant of the search
-  -- (`Searches`) still holds. If the new entry in the queue is not counted, the number of transitions that the search
+  -- The search scans the states in ascending order. The following lemmas are about the step in which the scan passes a
+  -- marked state, `next`. After this step, the invariant of the search (`Searches`) holds for the queue with `next`
+  -- added at its front. If the transitions of `next` are no longer counted, the number of transitions that the search
   -- may still read has decreased by the number of transitions of `next`.
   module _ {b : Bool} {states : ℕ} (all : states ≡ g.states) (low : next < states) (e : b ≡ get_or marked next b)
       (m : b ≡ true) where
@@ -137,8 +136,8 @@ module _ {g : Grouped} {marked : List Bool} {next : ℕ} {waiting : List ℕ} {o
         (λ u. grind (arith, nat_tests, cases_eq u next, here)) g.places in
         omega (arith, part)
 
-  -- The search scans the states in the order of their numbers. Suppose that the scan passes a state that is not marked.
-  -- Then the invariant (`ReadsOnce`) still holds.
+  -- The search scans the states in ascending order. Suppose that the scan passes a state that is not marked. Then the
+  -- invariant of the search (`ReadsOnce`) still holds.
   pub ReadsOnce-skip : get_or marked next false ≡ false → ReadsOnce g marked (next + 1) waiting old mid
   ReadsOnce-skip unmarked =
       let held = reads.search in

@@ -1,8 +1,9 @@
 -- A quotient transition comes from a transition of the system: the source and the target of the transition are replaced
--- by their class numbers. The class number of a reachable state is the number of the quotient state that represents it.
--- Some lemmas of this file say from which transition a quotient transition comes. `HasShown` says that a list has
--- exactly the quotient transitions of the states in a set. Some lemmas say how such a list changes when a state is
--- added to the set. Other lemmas say when the list has all quotient transitions of a class.
+-- by their class numbers. The class number of a reachable state is the number of the quotient state that represents
+-- this state. Some lemmas of this file are about the transition from which a quotient transition comes. The other
+-- lemmas are about lists that contain exactly the quotient transitions of the states in a set (`HasShown`). These
+-- lemmas prove how such a list changes when a state is added to the set, and when such a list contains all quotient
+-- transitions of a class.
 use Rattle.std.proofs.Common.{◌-◌, get_or, ◌≡◌, ◌≢◌, ◌⊎◌, ℕ, ◌+◌, ◌<◌, ◌≤◌, Bool, false, not, ◌&&◌, IsTrue, eqb, ltb}
 use Rattle.std.proofs.Common.{List, [], ◌++◌, length, slice_index, Contains, IsPermutation, ap, subst, inl, inr, arith}
 use Rattle.std.proofs.Common.{map, rules, nat_eq, cond}
@@ -36,7 +37,7 @@ use Rattle.std.proofs.lemmas.Bool.{not-true, not_from_false}
 use Rattle.std.proofs.lemmas.List.Sums.{length-filter, count_by-le-length}
 use Rattle.quotient_core.proofs.Visits.{visits_then, room_after, Parts, rows_part, rows_few}
 
--- `triple_cmp` compares two triples: first by source, then by label, then by target.
+-- `triple_cmp` compares two triples (source, label ID, target): first by source, then by label ID, then by target.
 abbrev triple_cmp : Triple → Triple → Ordering
 triple_cmp x y = ordering_then (ordering_then (nat_cmp x.0 y.0) (nat_cmp x.1 y.1)) (nat_cmp x.2 y.2)
 
@@ -79,8 +80,9 @@ module _ (g : Grouped) (n : Numbering) (s : ℕ) where
 module _ {g : Grouped} {n : Numbering} where
   -- A quotient transition is a transition between quotient states. Suppose that each state that satisfies p satisfies
   -- exactly one of q and r, and that each other state satisfies neither q nor r (`Parts`). Suppose also that the list
-  -- xs has the quotient transitions of the states that satisfy q, and that the list ys has the quotient transitions of
-  -- the states that satisfy r. Then xs followed by ys has the quotient transitions of the states that satisfy p.
+  -- xs contains exactly the quotient transitions of the states that satisfy q, and that the list ys contains exactly
+  -- the quotient transitions of the states that satisfy r. Then xs followed by ys contains exactly the quotient
+  -- transitions of the states that satisfy p.
   pub shown_with : {p q r : ℕ → Bool} {xs ys : List Triple} → Parts p q r → HasShown g n q xs → HasShown g n r ys →
       HasShown g n p (xs ++ ys)
   shown_with {p} {q} {r} {xs} {ys} parts h own = record {
@@ -100,8 +102,8 @@ module _ {g : Grouped} {n : Numbering} where
       cases : (s : ℕ) → IsTrue (p s) → IsTrue (q s) ⊎ IsTrue (r s)
       cases s h = grind (arith, parts s)
 
-  -- A quotient transition is a transition between quotient states. The list `shown_by g n s` has exactly the quotient
-  -- transitions of the state s.
+  -- A quotient transition is a transition between quotient states. The list `shown_by g n s` contains exactly the
+  -- quotient transitions of the state s.
   pub shown_row : (s : ℕ) → HasShown g n (λ t. eqb t s) (shown_by g n s)
   shown_row s = record {
     exactly = λ x. (
@@ -111,9 +113,9 @@ module _ {g : Grouped} {n : Numbering} where
     few = search (rules, length-filter, count_by-le-length, length-map);
   }
 
-  -- Suppose that a list has exactly the quotient transitions (transitions between quotient states) of some states. If
-  -- the list is sorted and its repeated elements are removed, then it still has exactly the quotient transitions of
-  -- these states.
+  -- Suppose that a list contains exactly the quotient transitions (transitions between quotient states) of some states.
+  -- Suppose that the list is sorted, and that its repeated elements are then removed. Then the list still contains
+  -- exactly the quotient transitions of these states.
   pub shown_tidy : {p : ℕ → Bool} {list sorted tidy : List Triple} → HasShown g n p list →
       IsPermutation list sorted → IsFiltered (DiffersFromLast triple_eq) [] sorted tidy → length tidy ≤ length list →
       HasShown g n p tidy
@@ -132,27 +134,29 @@ module _ {g : Grouped} {n : Numbering} where
 abbrev pub is_below : Numbering → ℕ → ℕ → Bool
 is_below n i s = is_reached n s && ltb (number_of n s) i
 
--- The class number of a state is the number of the quotient state that represents it. A reachable state has a class
--- number less than i + 1 if and only if its class number is less than i or equal to i. The two cases exclude each other
--- (`Parts`).
+-- The class number of a state is the number of the quotient state that represents this state. A reachable state has a
+-- class number less than i + 1 if and only if its class number is less than i or equal to i. The two cases exclude each
+-- other (`Parts`).
 pub below_next : (n : Numbering) (i : ℕ) → Parts (is_below n (i + 1)) (is_below n i) (is_member n i)
 below_next n i s = grind (arith, nat_tests)
 
--- The class number of a state is the number of the quotient state that represents it. Consider the reachable states
--- with class numbers less than i and the reachable states with the class number i. Together, these states have at most
--- as many transitions as the whole system.
+-- The class number of a state is the number of the quotient state that represents this state. Consider the reachable
+-- states with class numbers less than i and the reachable states with the class number i. Together, these states have
+-- at most as many transitions as the whole system.
 pub rows_fit : (g : Grouped) (n : Numbering) (i : ℕ) → length (rows_of (is_below n i) g.places)
     + length (rows_of (is_member n i) g.places) ≤ length g.places
 rows_fit g n i = let part = rows_part _ _ _ (below_next n i) g.places in
     omega (arith, part, rows_few (is_below n (i + 1)) g.places)
 
--- The lemmas about the number of visits (reads of transitions) of the loop that reads the system class by class.
+-- The lemmas about the number of visits (reads of transitions that the meter counts) of the loop that reads the
+-- transitions of the system class by class.
 pub ruleset class_by_class = (rows_fit, rows_few, visits_then, room_after)
 
 -- A quotient transition is a transition between quotient states, which represent the classes of states. Suppose that
--- the quotient transitions in the list xs come from the classes with numbers less than i, and are pairwise different.
--- Suppose also that the quotient transitions in the list ys come from the class i, and are pairwise different. Then the
--- quotient transitions in xs followed by ys are pairwise different.
+-- the list xs contains exactly the quotient transitions of the classes with numbers less than i, and that no quotient
+-- transition occurs twice in xs. Suppose also that the list ys contains exactly the quotient transitions of the class
+-- with the number i, and that no quotient transition occurs twice in ys. Then no quotient transition occurs twice in xs
+-- followed by ys.
 pub once_next : (g : Grouped) (n : Numbering) (i : ℕ) (xs ys : List Triple) → HasShown g n (is_below n i) xs →
     HasShown g n (is_member n i) ys → AllPairs (λ x y. x ≢ y) xs → AllPairs (λ x y. x ≢ y) ys →
     AllPairs (λ x y. x ≢ y) (xs ++ ys)
@@ -171,17 +175,18 @@ once_next g n i xs ys h own one other a b d low high =
         let (_, _, two, _) = place_of g n t x e in
         grind (arith, nat_tests, low, is, ap source_of one, ap source_of two)
 
--- The loop of `read_class` takes the states of the block of a class one after the other. `was_read` is true if the
--- state s is a member of the class i, and is among the first k states that the loop takes.
+-- `was_read` is true if the state s is a member of the class i, and is among the first k states that the loop of
+-- `read_class` takes. The loop takes the states of the block of the class one after the other. The loop takes the last
+-- state of the list `members` first, and then the other states in the order of this list.
 abbrev pub was_read : Numbering → ℕ → List ℕ → (ℕ → ℕ) → ℕ → ℕ → Bool
 was_read n i members at k s =
     is_member n i s && ltb (cond (eqb (at s + 1) (length members)) 0 (at s + 1)) k
 
--- The loop of `read_class` takes the states of the block of a class one after the other. `IsReadTo` is the invariant of
--- this loop after it has taken the first k states of the block of the class i. It has two main conditions. First, the
--- list `class` has exactly the quotient transitions (transitions between quotient states) of the reachable states among
--- these k states. Second, the number of visits (counted reads of transitions) is at most the number of transitions of
--- these reachable states.
+-- `IsReadTo` is the invariant of the loop of `read_class`, which takes the states of the block of the class i one after
+-- the other. The invariant holds after the loop has taken the first k states. The two main conditions of the invariant
+-- are the following. First, the list `class` contains exactly the quotient transitions (transitions between quotient
+-- states) of the reachable states among these k states. Second, the number of visits (reads of transitions that the
+-- meter counts) is at most the number of transitions of these reachable states.
 pub record IsReadTo (g : Grouped) (n : Numbering) (i : ℕ) (members : List ℕ) (k : ℕ) (class : List Triple)
     (old new : Counts) : Type 0 where
   pub below : i < length n.classes.items
@@ -195,20 +200,21 @@ module _ {g : Grouped} {n : Numbering} {i : ℕ} {members : List ℕ} {k : ℕ} 
   abbrev read : ℕ → ℕ → Bool
   read = was_read n i members h.are.at
 
-  -- The members of a class are the reachable states of its block. Each member of the class i is in the list of the
-  -- states of this block.
+  -- The members of a class are the reachable states of its block. Each member of the class i is in the list `members`,
+  -- which contains the states of this block.
   there : (s : ℕ) → IsTrue (is_member n i s) → (h.are.at s < length members) × (slice_index members (h.are.at s) ≡ s)
   there s m =
       let below = marked_below g.states n.reached.items s h.numbered.reached_long in
       grind (arith, nat_tests, h.numbered.class s i, h.below, h.are.all s, below, h.numbered.blocks_long)
 
   -- The loop of `read_class` reads the transitions of the members of a class, one member after the other. The members
-  -- that were read so far have at most as many transitions as all members of the class. After all members were read,
-  -- the list `class` has exactly the quotient transitions (transitions between quotient states) of the class.
+  -- that were read so far have at most as many transitions as all members of the class together.
   pub read_few : (m : ℕ) → length (rows_of (read m) g.places) ≤ length (rows_of (is_member n i) g.places)
   read_few m = let rest = λ (s : ℕ). is_member n i s && not (read m s) in
       omega (arith, rows_part (is_member n i) (read m) rest (λ s. grind (arith, nat_tests)) g.places)
 
+  -- Suppose that the loop of `read_class` has taken all states of the block of a class. Then the list `class` contains
+  -- exactly the quotient transitions (transitions between quotient states) of this class.
   pub read_all : length members ≤ k → HasShown g n (is_member n i) class
   read_all end =
       let same : (s : ℕ) → read k s ≡ is_member n i s = λ s. grind (arith, nat_tests, there s) in
@@ -264,10 +270,10 @@ module _ {g : Grouped} {n : Numbering} {i : ℕ} {members : List ℕ} {k : ℕ} 
               visits_then h.visits row (omega (arith, few)) in
               search (rules, h, shown_next, visits)
 
-          -- The quotient leaves out inert transitions. A quotient transition is a transition between quotient states.
+          -- A quotient transition is a transition between quotient states. The quotient leaves out inert transitions.
           -- Suppose that the loop of `read_class` has just read the transitions of the member `next` of a class, and
-          -- that no transition of `next` is left out. Then the members of the class that have been read, including
-          -- `next`, have all quotient transitions of the class.
+          -- that no transition of `next` is left out. Then the quotient transitions that the loop has collected so far,
+          -- including the quotient transitions of `next`, are all quotient transitions of the class.
           pub read_enough : ShowEachOther g n → length (shown_by g n next) ≡ length (row_of next g.places) →
               HasShown g n (is_member n i) more
           read_enough also whole = record {

@@ -1,6 +1,6 @@
--- A visit is one counted read of a transition. This file has lemmas about the number of visits that two successive
--- calls make. It also has lemmas about the number of transitions of the states in a set. None of the calls begins a
--- round.
+-- A visit is a read of a transition that the meter counts. This file contains lemmas about the number of visits that
+-- two successive calls make. None of the calls begins a round. The file also contains lemmas about the number of
+-- transitions of the states in a set.
 use Rattle.std.proofs.Common.{rules, ◌≡◌, ℕ, ◌+◌, ◌≤◌, Bool, cond, List, length}
 use Rattle.std.proofs.lemmas.List.Sums.{length-filter, count_by-le-length}
 use Rattle.lts.proofs.CallerLemmas.{length-filter-sum}
@@ -8,8 +8,8 @@ use Rattle.lts.specs.Lts.{Triple, source_of}
 use Rattle.lts.specs.Meter.{Counts, HasRoomFor, Costs}
 use Rattle.quotient_core.specs.Triples.{rows_of}
 
--- If one call makes at most `first` visits (counted reads of transitions), and the next call makes at most `second`
--- visits, then the two calls together make at most `first + second` visits.
+-- Suppose that one call makes at most `first` visits (reads of transitions that the meter counts), and that the next
+-- call makes at most `second` visits. Then the two calls together make at most `first + second` visits.
 pub visits_then : {old mid new : Counts} {first second most : ℕ} → Costs old mid 0 0 first → Costs mid new 0 0 second →
     first + second ≤ most → Costs old new 0 0 most
 visits_then before after fits = search rules
@@ -17,9 +17,9 @@ visits_then before after fits = search rules
 pub visits_at_most : {old new : Counts} {few most : ℕ} → Costs old new 0 0 few → few ≤ most → Costs old new 0 0 most
 visits_at_most h low = search rules
 
--- The meter counts visits (reads of transitions). Suppose that at some time, the meter had room for `all` more visits
--- without overflow. Suppose also that it has counted at most `few` visits since then, and that `few + row` is at most
--- `all`. Then the meter still has room for `row` more visits without overflow.
+-- The meter counts visits, which are reads of transitions. Suppose that, at some time, the meter could count `all` more
+-- visits without overflow. Suppose also that the meter has counted at most `few` visits since then, and that `few +
+-- row` is at most `all`. Then the meter can still count `row` more visits without overflow.
 pub room_after : {old mid : Counts} {all few row : ℕ} → HasRoomFor old 0 all → Costs old mid 0 0 few → few + row ≤ all →
     HasRoomFor mid 0 row
 room_after room cost fits = search rules

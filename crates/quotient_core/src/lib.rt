@@ -1,7 +1,9 @@
 //! Builds the quotient of a system from the classes of bisimilar states. The crate finds the reachable states, and
-//! numbers the classes that have a reachable state. The states of the quotient are these class numbers. The class
-//! number of a state is the number of its class. Each transition of the quotient comes from a transition of a reachable
-//! state. It leads from the class number of the source of this transition to the class number of the target.
+//! assigns a number to each class that contains a reachable state. These class numbers are the states of the quotient.
+//! The class number of a state is the number of its class. Each transition t of the quotient comes from a transition u
+//! of a reachable state, and has the same label as u. The source of t is the class number of the source of u, and the
+//! target of t is the class number of the target of u. For branching bisimilarity, the quotient leaves out internal
+//! transitions that lead from a class to itself.
 //!
 //! A call that returns a `Result` fails only if an allocation fails. The error is then `Memory`.
 #![tactic(auto)]

@@ -1,6 +1,6 @@
-//! Gives each reachable state its class number, which is the number of the quotient state that represents it. The class
-//! of the first state gets the number 0. The other classes get the numbers 1, 2 and so on, in the order of their least
-//! reachable members.
+//! Assigns a class number to each reachable state. The class number of a state is the number of the quotient state that
+//! represents this state. The class of the first state of the system has the class number 0. The other classes have the
+//! numbers 1, 2 and so on, in the order of their least reachable members.
 ghost use Rattle.std.specs.Prelude.{◌≡◌, ◌↔◌, ℕ, ◌<◌, length, IfOk, OnOk};
 ghost use Rattle.theory.specs.System.{Reachable};
 ghost use Rattle.theory.specs.declared.relation.Relation.{Relation};
@@ -12,24 +12,25 @@ use lts::{Lts, Memory, Meter};
 use partition::Blocks;
 use std::alloc::Global;
 
-/// The value in the table `by_block` for a block that has no class number yet. The class number of a block is the
-/// number of the quotient state that represents the reachable states of this block.
+/// In the table `by_block`, this value is the entry of each block that has no class number yet. The class number of a
+/// block is the number of the quotient state that represents the reachable states of this block.
 const NONE: u32 = u32::MAX;
 
-/// The class numbers of the reachable states, the block of each class, and the label that the quotient drops. The class
-/// number of a reachable state is the number of the quotient state that represents it.
+/// The result of the function `number`: the blocks of a system, the reachable states and their class numbers, the block
+/// of each class, and the label that the quotient drops. The class number of a reachable state is the number of the
+/// quotient state that represents this state.
 #[derive(Drop)]
 pub(crate) struct Numbering {
     pub(crate) blocks: Blocks,
-    /// Whether each state is reachable.
+    /// The entry of each state is true if the state is reachable.
     pub(crate) reached: Vec<bool>,
-    /// The class number of each reachable state, which is the number of the quotient state that represents it. The
-    /// numbers of unreachable states are not used.
+    /// The class number of each reachable state. The class number of a state is the number of the quotient state that
+    /// represents this state. The entries of unreachable states are not used.
     pub(crate) numbers: Vec<u32>,
-    /// The block ID of each class. The class with the number i is at the index i.
+    /// The block ID of each class. The block ID of the class with the number i is stored at the index i.
     pub(crate) classes: Vec<u32>,
     /// The ID of the label that the quotient drops, or `None` if it drops no label. The quotient leaves out all
-    /// transitions with this label that lead from a class to itself.
+    /// transitions that have the dropped label and lead from a class to itself.
     pub(crate) dropped: Option<u32>,
 }
 
@@ -53,8 +54,9 @@ impl Numbering {
         self.numbers[s as usize]
     }
 
-    /// Returns whether the quotient leaves out the transition `triple`, which has class numbers as its source and its
-    /// target. This is the case if its label ID is `dropped`, and if it leads from a class to itself.
+    /// Returns whether the quotient leaves out the transition `triple`, which consists of its source, its label ID and
+    /// its target. The source and the target are class numbers. The quotient leaves out the transition if its label is
+    /// the dropped label (`dropped`) and its source equals its target.
     #[inline(always)]
     pub fn leaves_out(&self, triple: (u32, u32, u32)) -> bool
         ensures { result ≡ is_left_out self.now.dropped triple }
@@ -66,21 +68,23 @@ impl Numbering {
     }
 }
 
-/// The class numbers that the loop of `number` has given so far, and the blocks of the classes with these numbers. A
-/// class number is the number of the quotient state that represents the class. The loop processes the states in
-/// ascending order.
+/// The data of the loop of the function `number`: the class numbers that the loop has assigned so far, and the blocks
+/// of the classes with these numbers. A class number is the number of the quotient state that represents the class. The
+/// loop processes the states in ascending order.
 #[derive(Drop)]
 struct Numbers {
-    /// The class number of each block, which is the number of the quotient state that represents the reachable states
-    /// of the block. The entry is `NONE` if the block has no class number yet.
+    /// The class number of each block, or `NONE` if the block has no class number yet. The class number of a block is
+    /// the number of the quotient state that represents the reachable states of the block.
     by_block: Vec<u32>,
     numbers: Vec<u32>,
     classes: Vec<u32>,
 }
 
-/// Gives each reachable state its class number, which is the number of the quotient state that represents it. The
-/// blocks must be the classes of bisimilar states, for strong or for branching bisimilarity. The argument `dropped` is
-/// the ID of the label that the quotient drops, or `None` if it drops no label.
+/// Assigns a class number to each reachable state. The class number of a state is the number of the quotient state that
+/// represents this state. The class numbers are correct if the blocks are the classes of bisimilar states, for strong
+/// or for branching bisimilarity. For each reachable state, the entry in `reached` must be true, and all other entries
+/// must be false. The argument `dropped` is the ID of the label that the quotient drops, or `None` if it drops no
+/// label.
 pub(crate) fn number<M: Meter>(
     alloc: Global,
     l: &Lts<M>,
@@ -118,9 +122,10 @@ pub(crate) fn number<M: Meter>(
 }
 
 impl Numbers {
-    /// Processes the next state of the loop, which is in the block `b`. If this state is reachable and its block has no
-    /// class number yet, the block gets the next class number. The state then gets the class number of its block. A
-    /// class number is the number of a quotient state.
+    /// Processes the next state of the loop, which is in the block `b`. The argument `is_reached` is true if this state
+    /// is reachable. If it is reachable and its block has no class number yet, the block gets the next class number. A
+    /// class number is the number of a quotient state. In any case, the entry that the table `by_block` then contains
+    /// for the block is appended to `numbers`.
     fn add(&mut self, b: u32, is_reached: bool) -> Result<(), Memory>
         requires block { b < length self.old.by_block.items }
         requires room { length self.old.classes.items < NONE }

@@ -14,9 +14,10 @@ use partition::Blocks;
 use std::alloc::Global;
 use theory::Relation;
 
-/// Builds the quotient of the system `l` modulo the relation `r`. The argument `blocks` has the classes of bisimilar
-/// states. The call makes two passes over the transitions: the first pass finds the reachable states, and the second
-/// pass builds the quotient. Each pass visits (reads) each transition at most once.
+/// Builds the quotient of the system `l` modulo the relation `r`. The blocks in `blocks` must be the classes of states
+/// that are bisimilar for `r`. The call makes two passes over the transitions: the first pass finds the reachable
+/// states, and the second pass builds the quotient. Each pass visits each transition at most once. A visit is a read of
+/// a transition that the meter counts.
 pub fn quotient_of<M: Meter>(
     alloc: Global,
     l: &Lts<M>,
@@ -42,9 +43,10 @@ pub fn quotient_of<M: Meter>(
     Lts::with_labels_of(l, 0, numbering.classes.len() as u32, shown)
 }
 
-/// Returns the ID of the label that the quotient drops, or `None` if it drops no label. The quotient leaves out all
-/// transitions with the dropped label that lead from a class to itself. For branching bisimilarity, the dropped label
-/// is the internal label, if the system has this label. For strong bisimilarity, the quotient drops no label.
+/// Returns the ID of the label that the quotient modulo `r` drops, or `None` if the quotient drops no label. The
+/// quotient leaves out all transitions that have the dropped label and lead from a class to itself. For branching
+/// bisimilarity, the dropped label is the internal label, if the label table of the system contains this label. For
+/// strong bisimilarity, the quotient drops no label.
 fn dropped(r: Relation, labels: &Labels) -> Option<u32>
     ensures { (x : Triple) → label_of x < length labels.now →
         (is_left_out result x ≡ true) ↔ IsDropped r (transition_of labels.now x) }

@@ -1,7 +1,8 @@
-//! Finds the reachable states. The search scans the states in the order of their numbers, and reads the transitions of
-//! each state that is marked when the scan reaches it. So the transitions are read in the order in which they are
-//! stored. If the scan has already passed a state when this state is marked, the state is put into a queue, and its
-//! transitions are read later.
+//! Finds the reachable states. The search marks each state that it finds, beginning with the first state of the system.
+//! The search scans the states in ascending order. If a state is marked when the scan reaches it, the search reads the
+//! transitions of this state and marks their targets. So the scan reads transitions in the order in which they are
+//! stored. If the scan has already passed a state when this state is marked, the state is put into a queue. After the
+//! scan, the search reads the transitions of the states in the queue.
 ghost use Rattle.std.specs.Prelude.{◌≡◌, ◌↔◌, ℕ, ◌+◌, ◌<◌, ◌≤◌, ◌∷◌, length, IfOk, OnOk};
 ghost use Rattle.theory.specs.System.{Reachable};
 ghost use Rattle.lts.specs.Meter.{HasRoomFor, Costs};
@@ -14,7 +15,8 @@ use std::alloc::Global;
 use std::collections::VecDeque;
 
 /// Returns, for each state, whether the state is reachable from the first state of the system. The first state is
-/// reachable from itself. The number of visits (counted reads of transitions) is at most the number of transitions.
+/// reachable from itself. The number of visits (reads of transitions that the meter counts) is at most the number of
+/// transitions.
 pub fn reachable<M: Meter>(alloc: Global, l: &Lts<M>, m: &mut M) -> Result<Vec<bool>, Memory>
     requires room { HasRoomFor (M.counted m.old) 0 (length l.now.places) }
     ensures states { IfOk result (λ r. length r.items ≡ l.now.states) }
@@ -32,8 +34,9 @@ pub fn reachable<M: Meter>(alloc: Global, l: &Lts<M>, m: &mut M) -> Result<Vec<b
     Ok(search.marked)
 }
 
-/// The marks of the states (a marked state is known to be reachable), and the queue of the marked states whose
-/// transitions are still to be read.
+/// The data of the search: the mark of each state, and a queue of states. Each marked state is reachable. The scan of
+/// the search reads the transitions of each state that is marked when the scan reaches it. The queue contains the
+/// states that were marked only after the scan had passed them, and whose transitions are still to be read.
 #[derive(Drop)]
 struct Search {
     marked: Vec<bool>,
@@ -41,8 +44,8 @@ struct Search {
 }
 
 impl Search {
-    /// Scans all states in the order of their numbers, and reads the transitions of each state that is marked when the
-    /// scan reaches it. Afterwards, the queue has the marked states whose transitions are still to be read.
+    /// Scans all states in ascending order, and reads the transitions of each state that is marked when the scan
+    /// reaches it. Afterwards, the queue contains the marked states whose transitions are still to be read.
     fn over_states<M: Meter>(alloc: Global, l: &Lts<M>, m: &mut M) -> Result<Search, Memory>
         requires room { HasRoomFor (M.counted m.old) 0 (length l.now.places) }
         ensures reads { IfOk result (λ s. ReadsOnce l.now s.marked.items l.now.states s.queue.items
@@ -66,10 +69,9 @@ impl Search {
         Ok(search)
     }
 
-    /// If the state `s` is already marked, the call does nothing. Otherwise, it marks `s`. The search scans the states
-    /// in the order of their numbers, and `next` is the state that the scan reaches next. If the scan has already
-    /// passed `s`, which means that `s` is less than `next`, the call also puts the newly marked state `s` into the
-    /// queue.
+    /// Marks the state `s`. If `s` is already marked, the call does nothing. The search scans the states in ascending
+    /// order, and has already passed all states that are less than `next`. If the scan has already passed `s`, and `s`
+    /// was not marked before, the call also puts `s` into the queue.
     fn mark(&mut self, s: u32, next: u32) -> Result<(), Memory>
         requires { s < length self.old.marked.items }
         ensures { OnOk result (MarksState s next self.old self.new) }
@@ -84,8 +86,8 @@ impl Search {
         Ok(())
     }
 
-    /// Marks the targets of the transitions of the state `s`. The search scans the states in the order of their
-    /// numbers, and has already passed all states that are less than `next`.
+    /// Marks the targets of the transitions of the state `s`. The search scans the states in ascending order, and has
+    /// already passed all states that are less than `next`.
     fn mark_targets<M: Meter>(
         &mut self,
         l: &Lts<M>,

@@ -1,6 +1,6 @@
-//! Lists the transitions of the quotient as triples (source, label ID, target). The source and the target are class
-//! numbers. The class number of a reachable state is the number of the quotient state that represents it. These triples
-//! are called quotient transitions below.
+//! Lists the transitions of the quotient as triples (source, label ID, target), which are called quotient transitions
+//! below. The source and the target of a quotient transition are class numbers. The class number of a reachable state
+//! is the number of the quotient state that represents this state.
 ghost use Rattle.std.specs.Prelude.{◌≡◌, ◌≢◌, ◌↔◌, ℕ, ◌+◌, ◌<◌, ◌≤◌, ◌==◌, ◌++◌, cond, IsTrue, length, IfOk, OnOk};
 ghost use Rattle.std.specs.List.{AllPairs};
 ghost use Rattle.lts.specs.Meter.{HasRoomFor, Costs};
@@ -13,9 +13,10 @@ use lts::{Lts, Memory, Meter, Transitions};
 use std::alloc::Global;
 
 /// Returns the transitions of the quotient in ascending order, without repetitions. For branching bisimilarity, the
-/// quotient leaves out inert transitions, which are internal transitions between bisimilar states. The caller must
-/// ensure `ShowEachOther`: a state of which no transition is left out has all quotient transitions of each other state
-/// that the same quotient state represents.
+/// quotient leaves out inert transitions, which are internal transitions between bisimilar states. The quotient
+/// transitions of a state are the transitions of the quotient that come from transitions of this state. The caller must
+/// ensure the following condition (`ShowEachOther`). If the same quotient state represents the states s and t, and no
+/// transition of s is left out, then each quotient transition of t is also a quotient transition of s.
 #[tactic(auto, using(crate::proofs::Showing::class_by_class))]
 pub(crate) fn shown_transitions<M: Meter>(
     alloc: Global,
@@ -41,8 +42,9 @@ pub(crate) fn shown_transitions<M: Meter>(
     Ok(shown)
 }
 
-/// Appends the list `class`, which has the quotient transitions (transitions between quotient states) of one class, to
-/// `shown`. The caller must ensure that `shown` has at most `most` transitions afterwards.
+/// Appends the transitions in `class` to `shown`. The list `class` contains the quotient transitions (transitions
+/// between quotient states) of one class. The caller must ensure that `shown` contains at most `most` transitions
+/// afterwards.
 fn add_class(shown: &mut Transitions, class: &[(u32, u32, u32)], most: u32) -> Result<(), Memory>
     requires room { length shown.old + length class.now ≤ most }
     ensures { OnOk result (shown.new ≡ shown.old ++ class.now) }
@@ -55,9 +57,9 @@ fn add_class(shown: &mut Transitions, class: &[(u32, u32, u32)], most: u32) -> R
 
 /// Replaces the content of `class` by the quotient transitions (transitions between quotient states) of the class that
 /// the quotient state `number` represents. The function reads the transitions of the reachable states in the block of
-/// this class, state by state. The quotient leaves out inert transitions. As soon as the function has read a state of
-/// which no transition is left out, it reads no further states. The caller must ensure that such a state has all
-/// quotient transitions of the class (`ShowEachOther`).
+/// this class, state by state. The quotient leaves out inert transitions. If no transition of a state is left out, the
+/// function stops after it has read the transitions of this state. The caller must ensure that the quotient transitions
+/// of such a state are all quotient transitions of the class (`ShowEachOther`).
 #[tactic(auto, using(crate::proofs::Showing::next_below))]
 fn read_class<M: Meter>(
     l: &Lts<M>,
@@ -90,11 +92,12 @@ fn read_class<M: Meter>(
     Ok(())
 }
 
-/// Returns the index of the state that the loop of `read_class` takes next. The loop takes the states of a block one
-/// after the other, and has taken `k` states so far. It takes the last state of the block first, and the other states
-/// follow in ascending order. In most systems, inert transitions lead either mostly to states with higher numbers, or
-/// mostly to states with lower numbers. Then the first or the last state of a block usually has no inert transition,
-/// and the loop can stop early.
+/// Returns the index, in the list `members` of `read_class`, of the state that the loop of `read_class` takes next. The
+/// list contains the states of a block. The loop takes these states one after the other, and has taken `k` states so
+/// far. The loop takes the last state of the list first, and the other states follow in the order of the list. In most
+/// systems, inert transitions lead either mostly to states with higher numbers, or mostly to states with lower numbers.
+/// So if the list is in ascending order, its last or its first state usually has no inert transition, and the loop can
+/// stop early.
 fn last_first(k: usize, members: usize) -> usize
     requires { k < members }
     ensures below { result < members }
@@ -104,7 +107,7 @@ fn last_first(k: usize, members: usize) -> usize
 }
 
 /// Appends to `class` the quotient transitions (transitions between quotient states) of the state `s`. The quotient
-/// leaves out inert transitions. Returns true if no transition of `s` is left out.
+/// leaves out inert transitions. Returns true if no transition of `s` is left out, and false otherwise.
 fn read_row<M: Meter>(
     l: &Lts<M>,
     numbering: &Numbering,

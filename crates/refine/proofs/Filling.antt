@@ -1,14 +1,13 @@
--- These lemmas are about the signatures of all states, and about the blocks that result from a split by these
--- signatures.
+-- This file proves a lemma about the blocks that result when blocks are split by the signatures of all states.
 use Rattle.std.proofs.Common.{rules, ◌≡◌, ◌↔◌, ℕ, ◌<◌, List, length, map, slice_index, subst₂}
 use Rattle.std.proofs.lemmas.List.{get_or-map, length-map}
 use Rattle.signatures.specs.Lists.{list_at, AreLists, AreIds}
 use Rattle.partition.specs.Splitting.{Splits}
 use Rattle.refine_core.proofs.CallerLemmas.{Splits-signatures}
 
--- Suppose that the old blocks are split by the IDs of the signatures of their states, and that the resulting blocks are
--- then numbered in the order of their least members. Then two states share a resulting block if and only if they shared
--- an old block and have equal signatures.
+-- Suppose that the old blocks are split by the IDs of the signatures of their states, and that the resulting blocks
+-- then get new IDs. Then two states share a resulting block if and only if they shared an old block and have equal
+-- signatures.
 pub split_alike : (interned signatures : List (List (ℕ × ℕ))) (signature_ids ns p old new q : List ℕ) (count more : ℕ)
     → map (list_at interned) signature_ids ≡ signatures → AreLists interned → AreIds interned signature_ids → ns
     ≡ signature_ids

@@ -1,4 +1,4 @@
--- Lemmas about lists that are stored as ranges (spans) of one buffer. They show what happens when another list is
+-- Lemmas about lists that are stored as ranges (spans) of one buffer. The lemmas show what happens when another list is
 -- appended to the buffer.
 use Rattle.std.proofs.Common.{rules, ◌≡◌, ℕ, List, [], ◌∷◌, ◌++◌, length, refl, arith}
 use Rattle.std.specs.List.{All, slice_range}
@@ -8,8 +8,9 @@ use Rattle.refine.specs.declared.buffer.Span.{Span}
 use Rattle.refine.specs.Spans.{signatures_in, IsSpan}
 use Rattle.signatures.proofs.CallerLemmas.{All-only, slice_range-append, slice_range-last}
 
--- `Stores` holds under two conditions. First, each element of `spans` is a range of indices of the buffer `pairs`.
--- Second, the ranges of the buffer contain the lists of `lists`, in the same order.
+-- `Stores` holds if both of the following conditions hold. First, each element of `spans` is a range of indices of the
+-- buffer `pairs` (`IsSpan`). Second, the lists that are stored in these ranges are the elements of `lists`, in the same
+-- order.
 pub record Stores (pairs : List (ℕ × ℕ)) (spans : List Span) (lists : List (List (ℕ × ℕ))) : Type 0 where
   pub ranges : All (IsSpan pairs) spans
   pub are : signatures_in pairs spans ≡ lists

@@ -1,6 +1,6 @@
--- Lemmas about a search along inert transitions, which are internal transitions within a block. They show how the data
--- of the search changes when the search explores a transition. They also show that, at the end of the search, the
--- collected pairs are the signature of the state at which the search began.
+-- Lemmas about a search along inert transitions, which are internal transitions within a block. Some lemmas show how
+-- the data of the search changes when the search explores a transition. Other lemmas show that, at the end of the
+-- search, the collected pairs are the branching signature of the state at which the search began.
 use Rattle.std.proofs.Common.{rules, ◌≡◌, ◌∙◌, ◌↔◌, ℕ, ◌+◌, ◌<◌, ◌≤◌, Bool, true, false, cond, eqb, IsTrue}
 use Rattle.std.proofs.Common.{List, [], ◌∷◌, ◌++◌, length, set, take, slice_index, slice_index_or, Contains, ap, sym}
 use Rattle.std.proofs.Common.{subst, refl, inl, inr, arith}
@@ -40,8 +40,8 @@ module _ (places : List Triple) where
   abbrev pub row_length : ℕ → ℕ
   row_length t = length (row_of t places)
 
-  -- Suppose that the states in a list are distinct. Add up the numbers of transitions of these states. Then the sum is
-  -- the number of those transitions whose sources are in the list.
+  -- Suppose that no state occurs twice in a list of states. Then the sum of the numbers of transitions of these states
+  -- equals the number of transitions of the system whose sources are in the list.
   rows_sum : (xs : List ℕ) → IsDistinct eqb xs
       → sum_by row_length xs ≡ length (filter (λ e. list_any (eqb (source_of e)) xs) places)
   rows_sum [] once = omega (arith, length-filter-sum (λ _. false) (λ _. false) (λ _. false) (λ _. refl) places)
@@ -57,29 +57,31 @@ module _ (places : List Triple) where
             (λ e. list_any (eqb (source_of e)) xs) (λ e. parts (source_of e)) places,
       )
 
-  -- Suppose that the states in a list are distinct. Then the states in the list together have at most as many
-  -- transitions as the whole system has.
+  -- Suppose that no state occurs twice in a list of states. Then the states in the list together have at most as many
+  -- transitions as the whole system.
   rows_few : (xs : List ℕ) → IsDistinct eqb xs → sum_by row_length xs ≤ length places
   rows_few xs once = search (rules, rows_sum, length-filter, count_by-le-length)
 
-  -- Suppose that the states in a list are distinct. Then the first i states of the list and the next state together
-  -- have at most as many transitions as the whole system has.
+  -- Suppose that no state occurs twice in a list of more than i states. Then the first i states of the list and the
+  -- state after them have, together, at most as many transitions as the whole system.
   pub rows_room : (xs : List ℕ) (i : ℕ) → IsDistinct eqb xs → i < length xs
       → sum_by row_length (take i xs) + row_length (slice_index xs i) ≤ length places
   rows_room xs i once h = omega (arith, rows_few xs once, sum_by_more_le row_length xs i 0 h)
 
-  -- Suppose that the states in a list are distinct, and that the list is not empty. Then the number of the transitions
-  -- of these states is at least the number of transitions of the first state of the list, and at most the number of all
-  -- transitions.
+  -- Suppose that no state occurs twice in a list of states, and that the list is not empty. Then the number of
+  -- transitions of all states in the list is at least the number of transitions of its first state. This number is at
+  -- most the number of transitions of the whole system.
   pub rows_all : (xs : List ℕ) (i : ℕ) → IsDistinct eqb xs → length xs ≤ i → 0 < length xs
       → (row_length (slice_index xs 0) ≤ sum_by row_length (take i xs))
       × (sum_by row_length (take i xs) ≤ length places)
   rows_all xs i once long some = rw (take_all i xs long) (get_or-le-sum_by row_length xs 0 0 some, rows_few xs once)
 
--- `ReadsRow` holds while a search reads the transitions of one found state, which is at the index i in the list of the
--- found states. The place of a transition is its index in the list of all transitions. The transitions of the found
--- state begin at the place `start`. The search has explored (`IsExplored`) the transitions from the place `start` up to
--- but excluding the place k. The data of the search was `first` before it read these transitions, and is f now.
+-- `ReadsRow` is the invariant of the loop in which a search reads the transitions of one found state. This state is at
+-- the index i in the list of found states. The place of a transition is its index in the list of all transitions, and
+-- the first transition of the found state is at the place `start`. The data of the search was `first` before the loop,
+-- and is f now. The invariant holds if both of the following conditions hold. First, the invariant of the search
+-- (`FindsFrom`) holds for f, and the list of found states in f begins with all found states of `first` (`Continues`).
+-- Second, the search has explored the transitions at the places j with `start` <= j < k (`IsExplored`).
 pub record ReadsRow (u : Under) (s : ℕ) (first : FoundStates) (i start k : ℕ) (f : FoundStates) : Type 0 where
   pub on : Continues u s first f i
   pub taken : (j : ℕ) → j < k → start ≤ j → IsExplored u s f (place_at u.l.places j)
@@ -96,9 +98,10 @@ module _ (u : Under) (s : ℕ) (lts : IsLts u.l) (laws : Laws)
   abbrev blocks : ℕ → ℕ
   blocks = slice_index u.blocks
 
-  -- The following lemmas assume that inert transitions lead from the state s to the state x, and that the search reads
-  -- the transitions of x. The transition e at the place k (its index in the list of all transitions) is a transition of
-  -- x. The search has read the transitions of x before e.
+  -- In the following lemmas, a search that began at the state s reads the transitions of the state x. Inert transitions
+  -- lead from s to x. The transition e is a transition of x, and its place (its index in the list of all transitions)
+  -- is k. The data of the search is `old`, and the search has explored the transitions of x at smaller places
+  -- (`ReadsRow`).
   module _ {first old : FoundStates} {i start k x : ℕ} (was : ReadsRow u s first i start k old)
       (led : LeadsInertly u s x) (at : k < length u.l.places) (from : source_of (place_at u.l.places k) ≡ x) where
     abbrev e : Triple
@@ -120,9 +123,10 @@ module _ (u : Under) (s : ℕ) (lts : IsLts u.l) (laws : Laws)
         )
 
     -- Let `new` be the data of the search after the search has read the transition e. Suppose that the invariant of the
-    -- search (`FindsFrom`) holds for `new`. Suppose that the search has explored e (`IsExplored`), and that everything
-    -- that the search had found and explored before is still found and explored in `new`. Then `ReadsRow`, the
-    -- invariant of reading the transitions of a state, holds for `new` with k + 1 in place of k.
+    -- search (`FindsFrom`) holds for `new`, and that the search has explored e (`IsExplored`). Suppose also that the
+    -- list of found states in `new` begins with all found states of `old`, and that each transition that was explored
+    -- in `old` is also explored in `new`. Then `ReadsRow`, the invariant of the loop that reads the transitions of x,
+    -- holds for `new` if k is replaced by k + 1.
     reads : (new : FoundStates) → StartsWith new.states old.states → FindsFrom u s new i
         → ((e' : Triple) → IsExplored u s old e' → IsExplored u s new e') → IsExplored u s new e
         → ReadsRow u s first i start (k + 1) new
@@ -131,9 +135,9 @@ module _ (u : Under) (s : ℕ) (lts : IsLts u.l) (laws : Laws)
       taken = below_more _ k (λ j low high. keeps _ (was.taken j low high)) (λ _. now);
     }
 
-    -- Suppose that the transition e is inert, and that the search reaches the target of e (`Reaches`): if the target
-    -- was not found before, it is added to the found states. Then `ReadsRow`, the invariant of reading the transitions
-    -- of a state, holds for the data after this step, with k + 1 in place of k.
+    -- Suppose that the transition e is inert, and that the search reaches the target of e (`Reaches`). Then `ReadsRow`,
+    -- the invariant of the loop that reads the transitions of x, holds for the data after this step if k is replaced by
+    -- k + 1.
     goes : (new : FoundStates) → IsInert u (blocks s) e → Reaches (target_of e) old new
         → ReadsRow u s first i start (k + 1) new
     goes new inert (inl (was, is)) =
@@ -156,8 +160,8 @@ module _ (u : Under) (s : ℕ) (lts : IsLts u.l) (laws : Laws)
         }) keeps (search rules))
 
     -- Suppose that the transition e is not inert, and that the search collects the pair (label ID, target block) of e.
-    -- Then `ReadsRow`, the invariant of reading the transitions of a state, holds for the data after this step, with k
-    -- + 1 in place of k.
+    -- Then `ReadsRow`, the invariant of the loop that reads the transitions of x, holds for the data after this step if
+    -- k is replaced by k + 1.
     collects : (z : ℕ × ℕ) (new : FoundStates) → ¬ IsInert u (blocks s) e → z ≡ pair_under u.blocks e →
         new ≡ record old { pairs = old.pairs ++ z ∷ [] } → ReadsRow u s first i start (k + 1) new
     collects z new other pair is =
@@ -182,8 +186,9 @@ module _ (u : Under) (s : ℕ) (lts : IsLts u.l) (laws : Laws)
           shown = λ _. rw (← pair) (Contains-push old.pairs z);
         }))
 
-    -- Suppose that the search has explored the transition e, which may be inert or not. Then `ReadsRow`, the invariant
-    -- of reading the transitions of a state, holds for the data after this step, with k + 1 in place of k.
+    -- Suppose that the search explores the transition e, which may be inert or not (`ExploresStep`). Then `ReadsRow`,
+    -- the invariant of the loop that reads the transitions of x, holds for the data after this step if k is replaced by
+    -- k + 1.
     pub went : (step : RowStep) (new : FoundStates) → IsStep u (blocks s) e step → ExploresStep step old new
         → ReadsRow u s first i start (k + 1) new
     went (Goes t) new (inert, is) reaches = goes new inert (subst (λ t. Reaches t old new) is reaches)
@@ -194,8 +199,8 @@ module _ (u : Under) (s : ℕ) (lts : IsLts u.l) (laws : Laws)
       ((s t : ℕ) → Inert A blocks s t → IsTrue (has s) → IsTrue (has t))
       → (s t : ℕ) → Leads (Inert A blocks) s t → IsTrue (has s) → IsTrue (has t))
       (f : FoundStates) (search : FindsFrom u s f (length f.states)) where
-    -- Suppose that the search has found the state x, and that a step leads from x to a state y. Then this step is
-    -- stored as a transition, and the search has explored this transition.
+    -- Suppose that the search has found the state x, and that a step with the label a leads from x to the state y. Then
+    -- there is a transition e that represents this step, and the search has explored e.
     explored : (x : ℕ) (a : List ℕ) (y : ℕ) → WasFound f x → Step A x a y → (e : Triple) × (IsExplored u s f e
         × IsTriple (length u.l.labels) u.l.states e) × (text_of u.l.labels (label_of e) ≡ a) × (target_of e ≡ y)
     explored x a y on step =
@@ -233,8 +238,8 @@ module _ (u : Under) (s : ℕ) (lts : IsLts u.l) (laws : Laws)
         subst (Contains f.pairs) is
         (done.shown (λ inert. other (sym label ∙ inert.0, sym block ∙ ap blocks (sym target) ∙ inert.1)))
 
-    -- Suppose that the collected pairs are sorted in ascending order, and that duplicates are removed. Then the result
-    -- is the branching signature of the state s, at which the search began.
+    -- Suppose that the collected pairs (label ID, block ID) are sorted in ascending order, and that duplicates are
+    -- removed. Then the result is the branching signature of the state s, at which the search began.
     pub signed : (zs : List (ℕ × ℕ)) → IsStrictlySortedBy pair_cmp zs →
         ((z : ℕ × ℕ) → Contains zs z ↔ Contains f.pairs z) → IsSignature Branching u.l u.blocks s zs
     signed zs ascending same = record {
@@ -242,8 +247,9 @@ module _ (u : Under) (s : ℕ) (lts : IsLts u.l) (laws : Laws)
       ascending = ascending;
     }
 
--- Suppose that no state is marked and that the search then reaches the state s as its first state. Then the invariant
--- of the search (`FindsFrom`) holds: the search has found s, and has not explored any transition yet.
+-- Suppose that a search has found no state and collected no pair, and that no state is marked. Suppose that the search
+-- then reaches the state s as its first state. Then the invariant of the search (`FindsFrom`) holds: the search has
+-- found s, and has not explored any transition yet.
 pub begun : (u : Under) (s : ℕ) (marked : List Bool) (new : FoundStates) → Laws → s < length marked
     → length marked ≡ u.l.states → IsUnmarked marked
     → Reaches s (record { marked = marked; states = []; pairs = [] }) new → FindsFrom u s new 0

@@ -1,12 +1,13 @@
--- Defines how many visits (counted reads of transitions) are needed at most to compute the signature of one state.
+-- Defines an upper bound on the number of visits (reads of transitions that the meter counts) that are needed to
+-- compute the signature of one state.
 use Rattle.std.specs.Prelude.{ℕ, length}
 use Rattle.theory.specs.declared.relation.Relation.{Relation}
 use Rattle.theory.specs.declared.relation.Relation.TheVariants.{Strong, Branching}
 use Rattle.lts.specs.Lts.{Grouped, row_of}
 
--- Returns an upper bound on the number of visits (counted reads of transitions) that are needed to compute the
--- signature of the state s. For strong bisimilarity, the bound is the number of transitions of s. For branching
--- bisimilarity, the bound is the number of all transitions.
+-- Returns an upper bound on the number of visits (reads of transitions that the meter counts) that are needed to
+-- compute the signature of the state s. For strong bisimilarity, the bound is the number of transitions of s. For
+-- branching bisimilarity, the bound is the number of all transitions of the system.
 abbrev pub most_visits : Relation → Grouped → ℕ → ℕ
 most_visits Strong l s = length (row_of s l.places)
 most_visits Branching l s = length l.places

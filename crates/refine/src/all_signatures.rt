@@ -39,7 +39,8 @@ impl Model for Signatures {
 }
 
 impl Signatures {
-    /// Returns empty signatures for `states` states. The number of states must be between 1 and 2,000,000.
+    /// Returns the signatures of `states` states. All of these signatures are empty. The number of states must be from
+    /// 1 to 2,000,000 (`MOST_STATES`).
     pub fn new(alloc: Global, states: u32) -> Result<Signatures, Memory>
         requires some { 1 ≤ states }
         requires few { states ≤ MOST_STATES }
@@ -68,9 +69,10 @@ impl Signatures {
         self.interned.of(self.signature_ids[s as usize])
     }
 
-    /// Computes the signature of each state with respect to the blocks of `p`. The number of visits (counted reads of
-    /// transitions) equals the number of transitions. If the call fails, it is unspecified which signatures the method
-    /// `of` returns afterwards.
+    /// Computes the signature of each state with respect to the blocks of `p`. If the call succeeds, the number of
+    /// visits (reads of transitions that the meter counts) equals the number of transitions. If the call fails, the
+    /// number of visits is at most the number of transitions, and it is unspecified which signatures the method `of`
+    /// returns afterwards.
     pub fn fill<S: Sense, M: Meter>(
         &mut self,
         l: &Lts<M>,
@@ -99,8 +101,8 @@ impl Signatures {
         Ok(())
     }
 
-    /// Splits the blocks of `p` by signatures: two states of a block stay together if and only if their signatures are
-    /// equal.
+    /// Splits the blocks of `p` by signatures: two states of a block stay in the same block if and only if their
+    /// signatures are equal.
     pub fn split(&self, p: &Partition) -> Result<Partition, Memory>
         requires states { length p.now ≡ length self.now }
         ensures states { IfOk result (λ q. length q ≡ length p.now) }
@@ -116,9 +118,9 @@ impl Signatures {
     }
 }
 
-/// Copies the blocks of `p` for a computation of the signatures of all states. In the copy, all states are active
-/// (processed by a round), and all blocks count as new (`first_new` is 0). So a round computes the signature of each
-/// state.
+/// Copies the blocks of `p`. In the copy, all states are active (a round processes them), and all blocks count as new
+/// (`first_new` is 0). Because of this, the function `sign_all` can compute the signature of each state with respect to
+/// the copy.
 fn copied(alloc: Global, p: &Partition) -> Result<Blocks, Memory>
     ensures block_ids { IfOk result (λ b. b.block_ids ≡ p.now) }
     ensures first_new { IfOk result (λ b. b.first_new ≡ 0) }
@@ -131,7 +133,8 @@ fn copied(alloc: Global, p: &Partition) -> Result<Blocks, Memory>
     Blocks::new(alloc, copy, active)
 }
 
-/// Returns the list of the numbers from 0 up to but excluding `states`. These numbers are the states of a system.
+/// Returns the list of all states of a system with `states` states. States are numbers, so this is the list of the
+/// numbers from 0 to `states` - 1, in ascending order.
 fn all_states(alloc: Global, states: u32) -> Result<Vec<u32>, Memory>
     ensures states { IfOk result (λ v. length v.items ≡ states) }
     ensures each { IfOk result (λ v. (s : ℕ) → s < states → slice_index v.items s ≡ s) }

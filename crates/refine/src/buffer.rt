@@ -1,6 +1,6 @@
-//! Stores a copy of all lists of an `Interner`. The type `Interner` of the crate `signatures` stores each signature
-//! once, as a list of pairs. The copies are stored in one buffer, one list after the other, so that each list can be
-//! read as a slice.
+//! Stores a copy of all lists of an `Interner`, which is a type of the crate `signatures`. An `Interner` stores each
+//! signature once, as a list of pairs (label ID, block ID). The copies are stored in one buffer, one list after the
+//! other, so that each list can be read as a slice.
 ghost use Rattle.std.specs.Prelude.{◌≡◌, ◌<◌, length, IfOk};
 ghost use Rattle.signatures.specs.Lists.{list_at, AreLists};
 
@@ -9,15 +9,16 @@ use signatures::Interner;
 use std::alloc::Global;
 use std::marker::Model;
 
-/// A sequence of different lists of pairs (label ID, block ID). Each list is stored as a range of one buffer. The ID of
-/// a list is its index in the sequence. The first list has the ID `EMPTY` and is empty.
+/// A sequence of lists of pairs (label ID, block ID). No two of the lists are equal. Each list is stored as a range of
+/// one buffer. The ID of a list is its index in the sequence. The first list is the empty list, and has the ID `EMPTY`.
 #[derive(Drop)]
 pub struct SignatureBuffer {
     pairs: Vec<(u32, u32)>,
     spans: Vec<Span>,
 }
 
-/// The range of the buffer in which a list is stored: from the index `start` up to, but not including, the index `end`.
+/// The range of the buffer in which a list is stored. The list consists of the pairs at the indices i of the buffer
+/// with `start` <= i < `end`.
 #[derive(Clone, Copy)]
 struct Span {
     start: usize,
@@ -40,7 +41,7 @@ impl Model for SignatureBuffer {
 }
 
 impl SignatureBuffer {
-    /// Copies all lists of `interned`. Each list keeps its ID.
+    /// Copies all lists of `interned` into a new buffer. Each list keeps its ID.
     pub fn new(alloc: Global, interned: &Interner) -> Result<SignatureBuffer, Memory>
         ensures { IfOk result (λ x. x ≡ interned.now) }
     {

@@ -12,8 +12,8 @@ use partition::Partition;
 use std::alloc::Global;
 
 /// Makes one round of refinement: splits the blocks of `p` by the signatures of the states (`Split`). The number of
-/// visits (counted reads of transitions) equals the number of transitions. If the call fails, the meter has counted at
-/// most one round, and the number of visits is at most the number of transitions.
+/// visits (reads of transitions that the meter counts) equals the number of transitions. If the call fails, the meter
+/// has counted at most one round, and the number of visits is at most the number of transitions.
 pub fn round<S: Sense, M: Meter>(
     alloc: Global,
     l: &Lts<M>,

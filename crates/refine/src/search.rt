@@ -1,5 +1,6 @@
-//! Computes the branching signature of one state by a search along inert transitions, which are internal transitions
-//! within a block. The search reads each outgoing transition of each found state exactly once.
+//! Computes the branching signature of one state. To do so, the module searches for the states to which inert
+//! transitions lead from this state. Inert transitions are internal transitions within a block. The search reads each
+//! outgoing transition of each found state exactly once.
 ghost use Rattle.std.specs.Prelude.{◌≡◌, ℕ, ◌+◌, ◌<◌, ◌≤◌, [], length, slice_index, IfOk, OnOk, OnErr};
 ghost use Rattle.theory.specs.declared.relation.Relation.TheVariants.{Branching};
 ghost use Rattle.lts.specs.Meter.{HasRoomFor, Visits};
@@ -15,13 +16,13 @@ use signatures::order;
 use std::alloc::Global;
 use std::marker::Model;
 
-/// The data of a search along inert transitions. Several searches use the same memory, one after the other. Between two
-/// searches, no state is marked.
+/// The data of a search along inert transitions, which are internal transitions within a block. Several searches use
+/// the same memory, one after the other. Between two searches, no state is marked.
 #[derive(Drop)]
 pub(crate) struct Search {
     /// The mark of each state. A state is marked if the search has found it.
     marked: Vec<bool>,
-    /// The states that were found, in the order in which they were found.
+    /// The states that the search has found, in the order in which it has found them.
     states: Vec<u32>,
     /// The pairs that the search has collected. For each transition that is not inert and starts in a found state, the
     /// search collects one pair: the label ID of the transition, and the block ID of its target.
@@ -41,7 +42,7 @@ impl Model for Search {
 }
 
 impl Search {
-    /// Returns the data of a search in a system with `states` states. No state is marked.
+    /// Returns the data of a search that has not begun yet, for a system with `states` states. No state is marked.
     pub fn new(alloc: Global, states: u32) -> Result<Search, Memory>
         ensures { IfOk result (IsClear states) }
     {
@@ -52,8 +53,10 @@ impl Search {
         })
     }
 
-    /// Stores the branching signature of the state `s` in `pairs`. The time that the call takes depends on the states
-    /// that the search finds and on their transitions, but not on the number of all states.
+    /// Stores the branching signature of the state `s` in the field `pairs`. The argument `blocks` contains the block
+    /// ID of each state. The time that the call takes depends on the states that the search finds and on their
+    /// transitions, but not on the number of all states. When the call returns, no state is marked, even if the call
+    /// has failed.
     pub fn sign<'a, M: Meter>(
         &mut self,
         l: &'a Lts<M>,
@@ -81,9 +84,10 @@ impl Search {
         Ok(())
     }
 
-    /// Finds the states to which inert transitions lead from `s`, including `s` itself. For each transition of these
-    /// states that is not inert, the function collects a pair: the label ID of the transition, and the block ID of its
-    /// target.
+    /// Finds the states to which inert transitions (internal transitions within a block) lead from `s`, including `s`
+    /// itself. For each transition of these states that is not inert, the function collects a pair: the label ID of the
+    /// transition, and the block ID of its target. Even if the call fails, exactly the states in the list `states` are
+    /// marked when the call returns.
     #[tactic(auto, using(crate::proofs::Searching::rows_room, crate::proofs::Searching::rows_all))]
     fn find<M: Meter>(&mut self, lens: &Lens<M>, s: u32, m: &mut M) -> Result<(), Memory>
         requires visited { lens.now.visited ≡ [] }
@@ -109,8 +113,9 @@ impl Search {
     }
 
     /// Reads the transitions of one state that the search has found. This state is at the index `i` in the list of
-    /// found states. The targets of its inert transitions become found states, too. The pairs (label ID, target block)
-    /// of its other transitions are collected.
+    /// found states. The search began at the state `s`. The targets of the inert transitions of the state at the index
+    /// `i` become found states, too. The pairs (label ID, target block) of all other transitions of this state are
+    /// collected.
     fn read<M: Meter>(&mut self, lens: &Lens<M>, s: u32, i: usize, m: &mut M) -> Result<(), Memory>
         requires visited { lens.now.visited ≡ [] }
         requires found { FindsFrom lens.now s self.old i }
@@ -136,9 +141,9 @@ impl Search {
         Ok(())
     }
 
-    /// Handles one outgoing transition of a state that the search has found. If the transition is inert, the target of
-    /// the transition becomes a found state, too. Otherwise, the search collects the pair of the label ID of the
-    /// transition and the block ID of its target.
+    /// Handles one outgoing transition of a state that the search has found. The argument `step` describes the
+    /// transition. If the transition is inert, its target becomes a found state, too. Otherwise, the search collects
+    /// the pair of the transition: its label ID, and the block ID of its target.
     fn explore(&mut self, step: Step) -> Result<(), Memory>
         requires { (t : ℕ) → step ≡ Inert t → t < length self.old.marked }
         ensures takes { OnOk result (ExploresStep step self.old self.new) }
@@ -151,7 +156,8 @@ impl Search {
         Ok(())
     }
 
-    /// Marks the state `t` and appends it to the found states. Does nothing if the search has found `t` before.
+    /// Marks the state `t` and appends it to the list of found states. If the search has found `t` before, the call
+    /// does nothing.
     fn reach(&mut self, t: u32) -> Result<(), Memory>
         requires { t < length self.old.marked }
         ensures reaches { OnOk result (Reaches t self.old self.new) }
@@ -166,7 +172,7 @@ impl Search {
     }
 }
 
-/// Clears the marks of the states in `states`. No other state may be marked.
+/// Clears the marks of all states in the list `states`. These states must be exactly the marked states.
 fn unmark(marked: &mut Vec<bool>, states: &[u32])
     requires { AreMarked marked.old.items states.now }
     ensures none { IsUnmarked marked.new.items }

@@ -16,7 +16,7 @@ use std::alloc::Global;
 use std::marker::Model;
 
 /// The working memory for computing signatures. The same memory can be used for many states and for many rounds. The
-/// result of a computation does not depend on the computations for which the memory was used before.
+/// result of a computation does not depend on the earlier computations that used the same memory.
 #[derive(Drop)]
 pub struct Marks {
     states: u32,
@@ -36,7 +36,8 @@ impl Model for Marks {
 }
 
 impl Marks {
-    /// Returns working memory for `states` states. The number of states must be between 1 and 2,000,000.
+    /// Returns working memory for a system with `states` states. This number must be from 1 to 2,000,000
+    /// (`MOST_STATES`).
     pub fn new(alloc: Global, states: u32) -> Result<Marks, Memory>
         requires some { 1 ≤ states }
         requires few { states ≤ MOST_STATES }
@@ -46,7 +47,7 @@ impl Marks {
         Ok(Marks { states, search })
     }
 
-    /// Returns the number of states.
+    /// Returns the number of states of the system for which this working memory was made.
     pub fn states(&self) -> u32
         ensures { result ≡ self.now }
     {
@@ -54,11 +55,11 @@ impl Marks {
     }
 }
 
-/// A relation for which the signature of a single state can be computed. It is strong or branching bisimilarity
-/// (`Strong` or `Branching`). The functions that a round of refinement calls are in the trait `Signing`, which this
-/// crate does not export.
+/// A relation for which the signature of a single state can be computed. The relation is strong or branching
+/// bisimilarity (`Strong` or `Branching`). The trait `Signing`, which this trait extends, contains the functions that a
+/// round of refinement calls. The crate `refine` does not export `Signing`.
 pub trait Sense: Signing {
-    /// Appends the signature of the state `s` with respect to the blocks of `p` to `out`. The signature is a list of
+    /// Appends to `out` the signature of the state `s` with respect to the blocks of `p`. The signature is a list of
     /// pairs (label ID, block ID) in ascending order, without duplicates. If the call fails, it is unspecified which
     /// pairs were appended to `out`.
     fn signature<M: Meter>(
@@ -104,7 +105,7 @@ impl Sense for Strong {
     }
 }
 
-/// Stores the strong signature of the state `s` in `pairs`.
+/// Stores in `pairs` the strong signature of the state `s`. The argument `p` contains the block ID of each state.
 fn sign<M: Meter>(
     l: &Lts<M>,
     p: &[u32],

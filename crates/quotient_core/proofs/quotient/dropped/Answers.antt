@@ -10,9 +10,9 @@ use Rattle.lts.specs.Lts.{Triple, label_of, transition_of}
 use Rattle.quotient_core.specs.Triples.{is_left_out}
 use Rattle.quotient_core.proofs.quotient.dropped.Goals as goal
 
--- If the label table has the internal label, let `dropped` be the ID of this label. Otherwise, let `dropped` be `None`.
--- Then the program leaves out a triple (source, label ID, target) if and only if the triple denotes an internal
--- transition from a state to itself.
+-- Let `dropped` be the ID of the internal label, or `None` if the label table does not contain the internal label. Then
+-- the program leaves out a triple (source, label ID, target) if and only if the triple denotes an internal transition
+-- from a state to itself.
 left_out_is : (labels : List (List ℕ)) (dropped : Option ℕ) → IsTable labels →
     MatchOption dropped (¬ Contains labels internal) (λ k. IsLabelId labels k internal) → (x : Triple) →
     label_of x < length labels → (is_left_out dropped x ≡ true) ↔ IsDropped Branching (transition_of labels x)

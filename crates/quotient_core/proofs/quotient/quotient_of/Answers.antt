@@ -8,8 +8,8 @@ use Rattle.quotient_core.proofs.quotient.quotient_of.Given.{Over}
 use Rattle.quotient_core.proofs.quotient.quotient_of.Goals as goal
 use Rattle.quotient_core.proofs.quotient.quotient_of.Goals.{In_ok-numbering, In_ok-shown, After-len}
 
--- The class number of a state is the number of the quotient state that represents it. The system and the class numbers
--- of its states satisfy the assumptions of the proofs about the quotient (`IsNumbered`).
+-- The class number of a state is the number of the quotient state that represents this state. The system and the class
+-- numbers of its states satisfy the assumptions of the proofs about the quotient (`IsNumbered`).
 is : (g : Over) (c : In_ok-numbering g) → IsNumbered c.args.r c.args.l.now c.in_ok-numbering.numbering
 is g c = let r = c.args.r in
     let l = c.args.l.now in

@@ -9,9 +9,10 @@ use Rattle.quotient_core.proofs.triples.read_row.Given.{Over}
 use Rattle.quotient_core.proofs.triples.read_row.Goals as goal
 use Rattle.quotient_core.proofs.triples.read_row.Goals.{After-leaves_out}
 
--- The row of a state is the list of its transitions. Consider the list of the quotient transitions that come from the
--- transitions of the row before the place `k`. If the quotient does not leave out the transition at the place `k`, the
--- quotient transition of this transition is appended to the list. Otherwise, the list stays the same.
+-- The place of a transition is its index in the list of all transitions. Let xs be the list of the quotient transitions
+-- (transitions between quotient states) that come from the transitions of the state s at places less than k. Let ys be
+-- the corresponding list for places less than k + 1. If the quotient leaves out the transition at the place k, then ys
+-- equals xs. Otherwise, ys consists of xs and the quotient transition that comes from the transition at the place k.
 more : (g : Over) (c : After-leaves_out g) → let n = c.args.numbering.now in
     let row = row_of c.args.s c.args.l.now.places in
     let shown = λ (es : List Triple).

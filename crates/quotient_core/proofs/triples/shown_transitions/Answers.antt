@@ -7,9 +7,9 @@ use Rattle.quotient_core.proofs.triples.shown_transitions.Given.{Over}
 use Rattle.quotient_core.proofs.triples.shown_transitions.Goals as goal
 use Rattle.quotient_core.proofs.triples.shown_transitions.Goals.{After-edges}
 
--- A quotient transition is a transition between quotient states. The list of the quotient transitions of a class is
--- sorted, and its repeated elements are removed. Afterwards the list still has exactly the quotient transitions of the
--- class.
+-- A quotient transition is a transition between quotient states. Suppose that the list of the quotient transitions of a
+-- class is sorted, and that its repeated elements are then removed. Then the list still contains exactly the quotient
+-- transitions of the class.
 tidy : (g : Over) (c : After-edges g) →
     HasShown c.args.l.now c.args.numbering.now (is_member c.args.numbering.now c.loop-number.number)
     c.dedup.new.self.items

@@ -18,8 +18,8 @@ row-start-requires g c = let held = c.requires.search in
     marked_below _ _ c.args.s held.size (held.each_waiting c.args.s (contains_here c.args.s _))
 
 module _ (g : Over) (c : In_ok-mark g) where
-  -- The target of the transition that was just read is a state of the system, so the list of marks has an entry for
-  -- this target.
+  -- The target of the transition that was just read is a state of the system, so the list of marks contains an entry
+  -- for this target.
   below : c.edge-target.result.1 < length c.loop-k.self.marked.items
   below = search rules
 

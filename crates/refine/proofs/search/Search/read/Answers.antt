@@ -10,15 +10,15 @@ use Rattle.refine.proofs.search.Search.read.Goals as goal
 use Rattle.refine.proofs.search.Search.read.Goals.{After-row-start}
 
 -- The place of a transition is its index in the list of all transitions. Let t be the found state at the index i in the
--- list of the found states. The range that the call of `row` returns has exactly the places of the outgoing transitions
--- of t.
+-- list of found states. The range that the call of `row` returns consists of exactly the places of the transitions
+-- whose source is t.
 module _ (g : Over) (c : After-row-start g) where
   row : IsRow c.args.lens.now.l.places (slice_index c.args.self.now.states c.args.i) c.row-start.result.0
       c.row-start.result.1
   row = search (rules, c.requires.more, c.self.view_is, get_or_read, c.index.ensures, c.row-start.ensures)
 
--- A visit is a counted read of a transition. Suppose that no transition was visited before. Then reading the transition
--- at the place k, which is an index in the list of all transitions, takes one visit.
+-- A visit is a read of a transition that the meter counts. Suppose that no transition was visited before in the round.
+-- Then reading the transition at the place k, which is its index in the list of all transitions, takes one visit.
 one_visit : {visited : List ℕ} → visited ≡ [] → (k : ℕ) → price visited k ≡ 1
 one_visit none k = ap (λ x. price x k) none
 
