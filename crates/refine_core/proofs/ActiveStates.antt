@@ -1,7 +1,7 @@
 -- Lemmas about the signatures of the active states, which are the states that the round processes. The row of a state
--- is the list of its outgoing transitions. For strong bisimilarity, the signature of a state is the list of the pairs
--- of its transitions, in ascending order and without duplicates. The pair of a transition consists of its label ID and
--- the block ID of its target.
+-- is the list of its outgoing transitions. The pair of a transition consists of its label ID and the block ID of its
+-- target. For strong bisimilarity, the signature of a state is the list of the pairs of its transitions, in ascending
+-- order and without duplicates.
 use Rattle.std.proofs.Common.{rules, ◌≡◌, ◌↔◌, ℕ, ◌+◌, ◌<◌, List, [], length, slice_index, set, Contains, arith, ◌-◌}
 use Rattle.std.proofs.Common.{◌∷◌, ◌++◌, ◌≤◌, take, map, sym, refl, ap, inl, inr, ◌∙◌}
 use Rattle.std.proofs.lemmas.Grind.{common_steps}
@@ -23,14 +23,14 @@ use Rattle.refine_core.specs.Shown.{HasNewBlock, IsStrongSplitSignature}
 use Rattle.refine_core.proofs.Showing.{IsUnaffected, unaffected_as_before, affected_changed}
 
 -- `StepsAreRow` is about the row of the state s, which is the list of the stored transitions from s. It holds if, for
--- each label a and each state t, the step s -a-> t exists (`Step`) if and only if the row has a transition to t whose
--- label ID denotes a.
+-- each label a and each state t, s -a-> t is a step of the system (`Step`) if and only if the row contains a transition
+-- to t whose label ID is the ID of the label a.
 abbrev pub StepsAreRow : Grouped → ℕ → Type 0
 StepsAreRow l s = (a : List ℕ) (t : ℕ) → Step (system_of l) s a t ↔ ((e : Triple) × Contains (row_of s l.places) e
     × (text_of l.labels (label_of e) ≡ a) × (target_of e ≡ t))
 
--- `StepAt` holds if the step s -a-> t is stored as the transition at the place `place`. The place of a transition is
--- its index in the list of all transitions.
+-- `StepAt` holds if the list of all transitions contains a transition from the state s to the state t with the label a.
+-- The field `place` is the index of this transition in the list.
 pub record StepAt (l : Grouped) (s : ℕ) (a : List ℕ) (t : ℕ) : Type 0 where
   pub place : ℕ
   pub below : place < length l.places
@@ -50,20 +50,20 @@ no_step l s steps empty a t step = let found = (steps a t).0 step in grind (arit
 module _ (l : Grouped) (blocks : List ℕ) (s : ℕ) (h : IsLts l)
     (sources : (e : Triple) → Contains (row_of s l.places) e ↔ (Contains l.places e × (source_of e ≡ s)))
     (steps : StepsAreRow l s) where
-  -- `pairs` is the list of the pairs of the transitions of the state s. The pair of a transition consists of its label
-  -- ID and the block ID of its target.
+  -- `pairs` is the list of the pairs (label ID, block ID of the target) of the transitions of the state s, in the order
+  -- of these transitions.
   abbrev pairs : List (ℕ × ℕ)
   pairs = map (pair_under blocks) (row_of s l.places)
 
-  -- The pair of a transition consists of its label ID and the block ID of its target. Each pair in the strong signature
-  -- of the state s is the pair of some transition of s.
+  -- The pair of a transition consists of its label ID and the block ID of its target. Suppose that a pair is in the
+  -- strong signature of the state s. Then this pair is the pair of some transition of s.
   pair_has : (k b : ℕ) → HasPair Strong l blocks s k b → Contains pairs (k, b)
   pair_has k b has =
       let found = (steps (text_of l.labels k) has.1.0).0 has.1.1 in
       grind (arith, common_steps, h.table.different, contains_mapped)
 
-  -- The pair of a transition consists of its label ID and the block ID of its target. The pair of each transition of
-  -- the state s is in the strong signature of s.
+  -- The pair of a transition consists of its label ID and the block ID of its target. Suppose that a pair is the pair
+  -- of some transition of the state s. Then this pair is in the strong signature of s.
   has : (z : ℕ × ℕ) → Contains pairs z → HasPair Strong l blocks s z.0 z.1
   has z c =
       let (e, at, is) = mapped_contains (pair_under blocks) (row_of s l.places) z c in
@@ -82,18 +82,20 @@ module _ (l : Grouped) (blocks : List ℕ) (s : ℕ) (h : IsLts l)
       ascending = ascending;
     }
 
-    -- A block is new if the last split has made it. Suppose that some transition of the state s leads to a new block.
-    -- Then the signature of s has changed since the last round. So the split signature of s, by which the split
-    -- separates s from other states of its block, is the new signature.
+    -- The split signature of a state is empty if the signature of the state has not changed since the last round, and
+    -- otherwise it is the new signature. Suppose that some transition of the state s leads to a new block, which is a
+    -- block that the last split has made. Then the strong signature of s has changed since the last round. So the list
+    -- zs, which is the new signature of s, is the split signature of s.
     pub row_affected : (first_new : ℕ) → HasNewBlock first_new pairs → IsStrongSplitSignature l blocks first_new s zs
     row_affected first_new (z, in_row, new) old follows =
         let (t, step, target) = (has z in_row).1 in
         let other = affected_changed l h.system old blocks first_new follows s _ t step (omega (arith, new, target)) in
         inr (λ none. absurd (omega (arith, (rw none at ((same z).1 in_row)).1)), other, row_signature)
 
-  -- A block is new if the last split has made it. Suppose that no transition of the state s leads to a new block. Then
-  -- the signature of s is the same as in the last round. So the split signature of s, by which the split separates s
-  -- from other states of its block, is empty.
+  -- The split signature of a state is empty if the signature of the state has not changed since the last round, and
+  -- otherwise it is the new signature. Suppose that no transition of the state s leads to a new block, which is a block
+  -- that the last split has made. Then the strong signature of s is the same as in the last round. So the split
+  -- signature of s is empty.
   pub row_unaffected : (first_new : ℕ) → ¬ HasNewBlock first_new pairs → IsStrongSplitSignature l blocks first_new s []
   row_unaffected first_new none old follows =
       let still : IsUnaffected (system_of l) (slice_index blocks) first_new s = λ a t step.
@@ -103,9 +105,10 @@ module _ (l : Grouped) (blocks : List ℕ) (s : ℕ) (h : IsLts l)
       omega (arith, apart, ap (slice_index blocks) target) in
       inl (refl, unaffected_as_before l h.system old blocks first_new follows s still)
 
--- Let `start` be the place of the first transition of the state s, where the place of a transition is its index in the
--- list of all transitions. The transitions of s follow each other in this list. The list `pairs_to k` has the pairs of
--- the transitions of s from the place `start` up to but excluding the place k.
+-- The place of a transition is its index in the list of all transitions. The transitions of the state s follow each
+-- other in this list, and the first of them has the place `start`. The pair of a transition consists of its label ID
+-- and the block ID of its target. The list `pairs_to k` contains the pairs of those transitions of s whose places are
+-- less than k.
 module _ (blocks : List ℕ) (places : List Triple) (s start : ℕ) where
   abbrev pub pairs_to : ℕ → List (ℕ × ℕ)
   pairs_to k = map (pair_under blocks) (take (k - start) (row_of s places))
@@ -113,10 +116,11 @@ module _ (blocks : List ℕ) (places : List Triple) (s start : ℕ) where
   pub pairs_none : [] ≡ pairs_to start
   pairs_none = search rules
 
-  -- The place of a transition is its index in the list of all transitions. Suppose that a list has exactly the pairs of
-  -- those transitions of the state s that are before the place k. If the pair of the transition at the place k is
-  -- appended to this list, then the list has exactly the pairs of those transitions of s that are before the place k +
-  -- 1.
+  -- The place of a transition is its index in the list of all transitions, and its pair consists of its label ID and
+  -- the block ID of its target. Suppose that the list `pairs` consists of the pairs of those transitions of the state s
+  -- whose places are less than k. Suppose that the transition at the place k is also a transition of s, and that the
+  -- list `new` results from appending the pair of this transition to `pairs`. Then `new` consists of the pairs of those
+  -- transitions of s whose places are less than k + 1.
   pub pairs_more : (k next : ℕ) {label target : ℕ} {pairs new : List (ℕ × ℕ)}
       → take ((k + 1) - start) (row_of s places) ≡ take (k - start) (row_of s places) ++ place_at places k ∷ []
       → next ≡ k + 1 → label ≡ (place_at places k).1 → target ≡ (place_at places k).2 → pairs ≡ pairs_to k
@@ -124,24 +128,26 @@ module _ (blocks : List ℕ) (places : List Triple) (s start : ℕ) where
   pairs_more k next {label = label} {target = target} row is_next is_label is_target before after =
       grind (arith, common_steps)
 
--- Suppose that no transition was visited yet. Then the number of unvisited transitions of a state is the number of all
--- transitions of this state.
+-- A visit is a read of a transition that the meter counts. Suppose that no transition was visited yet. Then the number
+-- of unvisited transitions of a state is the number of all transitions of this state.
 pub row_all : (visited : List ℕ) (places : List Triple) (s : ℕ) → visited ≡ []
     → length (row_of s (remaining_of visited places)) ≡ length (row_of s places)
 row_all visited places s none =
     ap (λ es. length (row_of s es)) (ap (λ visited. remaining_of visited places) none ∙ left_none places)
 
--- `HasGot` holds under two conditions. First, the ID that the list `signature_ids` has for the state s is the ID of an
--- interned signature. Second, the condition P holds for s and this signature.
+-- P is a condition on a state and a signature. `HasGot` holds if both of the following conditions hold. First, the list
+-- `signature_ids` contains, for the state s, the ID of an interned signature. Second, the condition P holds for s and
+-- this signature.
 pub record HasGot (P : ℕ → List (ℕ × ℕ) → Type 0) (signatures : List (List (ℕ × ℕ))) (signature_ids : List ℕ) (s : ℕ) :
     Type 0 where
   pub within : slice_index signature_ids s < length signatures
   pub holds : P s (list_of signatures signature_ids s)
 
 -- The active states are the states that the round processes, and P is a condition on a state and a signature. Suppose
--- that P holds for each of the first i active states and its signature (`HasGot`). Suppose also that the next active
--- state gets the signature with the ID k, and that P holds for this state and this signature. Then P holds for each of
--- the first i + 1 active states and its signature.
+-- that `signature_ids` contains the ID of an interned signature for each of the first i active states, and that P holds
+-- for each of these states and its signature (`HasGot`). Suppose also that the ID k is then stored for the next active
+-- state, and that P holds for this state and the signature with the ID k. Then `signature_ids` contains the ID of an
+-- interned signature for each of the first i + 1 active states, and P holds for each of these states and its signature.
 pub signed_more : {P : ℕ → List (ℕ × ℕ) → Type 0} {signatures signatures' : List (List (ℕ × ℕ))}
     {signature_ids active : List ℕ} {states i k : ℕ} → Grow signatures signatures' → AreActive states active
     → length signature_ids ≡ states → i < length active
@@ -151,8 +157,8 @@ pub signed_more : {P : ℕ → List (ℕ × ℕ) → Type 0} {signatures signatu
 signed_more grow rises size more before within this = search rules
 
 -- The active states are the states that the round processes. Suppose that every state that is not active has the
--- signature ID 0. If the signature ID of an active state is then changed, every state that is not active still has the
--- signature ID 0.
+-- signature ID 0, and that the signature ID of an active state is then changed. Then every state that is not active
+-- still has the signature ID 0.
 pub inactive_none_more : (signature_ids active : List ℕ) (i k : ℕ) → i < length active
     → InactiveHaveNone active signature_ids → InactiveHaveNone active (set signature_ids (slice_index active i) k)
 inactive_none_more signature_ids active i k more none t h = grind (arith, common_steps, get_or-set_other, length-set)

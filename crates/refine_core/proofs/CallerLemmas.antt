@@ -1,5 +1,5 @@
--- These are the lemmas of this crate that other crates use in their proofs. Other crates use no other lemmas of this
--- crate.
+-- This file exports the lemmas of this crate that other crates use in their proofs. Other crates use no other lemmas of
+-- this crate.
 pub use Rattle.refine_core.proofs.Showing.{Labelled, equal_lists}
 pub use Rattle.refine_core.proofs.Spending.{begun_up_to, on_ok_from, on_err_from}
 pub use Rattle.refine_core.proofs.ActiveStates.{row_signature}

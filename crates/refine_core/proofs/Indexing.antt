@@ -1,6 +1,6 @@
--- Proofs about the predecessor index and the states that a round does not process. A block is new if the last split has
--- made it. For strong bisimilarity, a round with a predecessor index processes each state that is not in a singleton
--- block and has a transition to a new block.
+-- Proofs about a search in the predecessor index for strong bisimilarity. The search finds the states that the round
+-- processes. A block is new if the last split has made it. The proofs show that the round processes each state that has
+-- a transition to a new block and is not in a singleton block.
 use Rattle.std.proofs.Common.{Bool, eqb, leb, ◌&&◌, ◌∙◌, ◌≡◌, ◌⊎◌, ℕ, ◌<◌, ◌≤◌, length, slice_index, subst}
 use Rattle.std.proofs.Common.{ap, inl, inr, arith}
 use Rattle.std.proofs.Math.Logic.{⊎_map}
@@ -24,9 +24,9 @@ abbrev pub AreUnaffected : Grouped → RoundBlocks → Type 0
 AreUnaffected l p = (s : ℕ) → s < l.states → IsMember p.active s ⊎ IsSingleton p.block_ids s
     ⊎ IsUnaffected (system_of l) (slice_index p.block_ids) p.first_new s
 
--- Suppose that the search for strong bisimilarity has found all states that it has to find (`SearchIsComplete`), and
--- that these states are the active states, which the round processes. Then each state is active, is in a singleton
--- block, or has no transition to a block that the last split has made.
+-- Suppose that a search for strong bisimilarity has found all states that it has to find (`SearchIsComplete`), and that
+-- the found states are the active states (the states that the round processes). Then each state is active, is in a
+-- singleton block, or has no transition to a block that the last split has made.
 module _ (l : Grouped) (lts : IsLts l) (q : RoundBlocks) (size : length q.block_ids ≡ l.states)
     (finds : SearchIsComplete Strong l q q.active) where
   -- Returns whether the transition e leads from the state s to a new block. A block is new if its ID is at least

@@ -1,7 +1,7 @@
 -- Signatures are stored as lists of pairs in ascending order. Two signatures are equal if and only if their lists are
--- equal. A split separates states by their split signatures. The split signature of a state is empty if its signature
--- has not changed since the last round, and otherwise it is its new signature. The proofs in this file show that a
--- split by the split signatures has the same result as a split by the signatures.
+-- equal. The split signature of a state is empty if the signature of the state has not changed since the last round,
+-- and otherwise it is the new signature. A split separates two states of a block if their split signatures differ. The
+-- proofs in this file show that a split by the split signatures has the same result as a split by the signatures.
 use Rattle.std.proofs.Common.{◌≡◌, ◌↔◌, ℕ, List, Option, None, Some, slice_index, subst, sym, arith, ◌⊎◌, ◌∙◌, ◌<◌, ◌≤◌}
 use Rattle.std.proofs.Common.{[], length, refl, inl, inr}
 use Rattle.std.proofs.lemmas.Grind.{common_steps}
@@ -22,17 +22,17 @@ use Rattle.refine_core.specs.Shown.{Was, IsAsBefore, IsSplitSignature, IsStrongS
 use Rattle.refine_core.specs.Signatures.{Signed, list_of}
 use Rattle.refine_core.specs.IndexState.{IsReadyToSign, SignsEach}
 
--- `Labelled` holds if, for each step of the system, the label of the step is in the label table.
+-- `Labelled` holds if the label of each step of the system is in the label table.
 abbrev pub Labelled : Grouped → Type 0
 Labelled l = (s : ℕ) (a : List ℕ) (t : ℕ) → Step (system_of l) s a t → (k : ℕ) × IsLabelId l.labels k a
 
--- `HasLabels` holds if, for each pair (a, b) of a label and a block for which the predicate `has` holds, the label a is
--- in the label table. The predicate `has` describes a set of pairs.
+-- The predicate `has` describes a set of pairs: the pair of a label a and a block b is in the set if `has a b` holds.
+-- `HasLabels` holds if the label of each pair in this set is in the label table.
 abbrev HasLabels : Grouped → (List ℕ → ℕ → Type 0) → Type 0
 HasLabels l has = (a : List ℕ) (b : ℕ) → has a b → (k : ℕ) × IsLabelId l.labels k a
 
--- Suppose that the label of each step is in the label table. Then, for each pair (label, block) in the signature of a
--- state in the last round, the label is in the label table.
+-- Suppose that the label of each step is in the label table (`Labelled`). Then the label of each pair in the signature
+-- that a state had in the last round is in the label table.
 pub label_id_of : (l : Grouped) → Labelled l → (rel : Relation) (old : Option (List ℕ)) (s : ℕ)
     → HasLabels l (Was rel l old s)
 label_id_of l labelled rel None s a b h = absurd h
@@ -44,9 +44,9 @@ carried_over : (l : Grouped) (P Q : List ℕ → ℕ → Type 0) (xs : List (ℕ
 carried_over l P Q xs labelled of_p of_q a b h = let (k, number) = labelled a b h in
     rw number.text at ((of_q.1 k b).0 ((of_p.1 k b).1 (number.below, rw number.text h))).1
 
--- The predicates P and Q describe sets of pairs (label, block). Suppose that the list xs represents the set of P, and
--- that the list ys represents the set of Q (`IsListOf`). Suppose also that all labels in both sets are in the label
--- table. Then xs and ys are equal if and only if both sets have the same pairs.
+-- The predicates P and Q describe two sets of pairs (label, block). Suppose that the list xs stores the set that P
+-- describes, and that the list ys stores the set that Q describes (`IsListOf`). Suppose also that all labels in both
+-- sets are in the label table. Then xs and ys are equal if and only if the two sets are equal.
 pub equal_represented : (l : Grouped) (P Q : List ℕ → ℕ → Type 0) (xs ys : List (ℕ × ℕ)) → HasLabels l P → HasLabels l Q
     → IsListOf l P xs → IsListOf l Q ys → (xs ≡ ys) ↔ ((a : List ℕ) (b : ℕ) → P a b ↔ Q a b)
 equal_represented l P Q xs ys in_p in_q of_p of_q = (
@@ -56,8 +56,8 @@ equal_represented l P Q xs ys in_p in_q of_p of_q = (
       grind (arith, of_p.1 z.0 z.1, of_q.1 z.0 z.1, is)),
 )
 
--- Suppose that the list xs represents the signature of the state s, and that the list ys represents the signature of
--- the state t. Then xs and ys are equal if and only if the signatures of s and t are equal.
+-- Suppose that the list xs stores the signature of the state s, and that the list ys stores the signature of the state
+-- t (`IsSignature`). Then xs and ys are equal if and only if the signatures of s and t are equal.
 pub equal_lists : (rel : Relation) (l : Grouped) (labelled : Labelled l) (blocks : List ℕ) (s t : ℕ)
     (xs ys : List (ℕ × ℕ)) → IsSignature rel l blocks s xs → IsSignature rel l blocks t ys
     → (xs ≡ ys) ↔ SameSignature rel (system_of l) (slice_index blocks) s t
@@ -66,26 +66,26 @@ equal_lists rel l labelled blocks s t xs ys of_s of_t =
     (label_id_of l labelled rel (Some blocks) t) (of_s.ascending, of_s.exactly) (of_t.ascending, of_t.exactly)
 
 -- Suppose that the blocks result from splitting the blocks of the last round (`Follows`), and that two states share a
--- block. Then the two states had equal signatures in the last round. If no round has run yet, all signatures in the
--- last round are taken to be empty.
+-- block. Then the two states had equal signatures in the last round. If the block IDs of the last round are not known
+-- (`old` is `None`), all signatures in the last round are taken to be empty.
 was_alike : (rel : Relation) (l : Grouped) (old : Option (List ℕ)) (of : List ℕ) (low : ℕ) → Follows rel l old of low
     → (s t : ℕ) → s < l.states → t < l.states → slice_index of s ≡ slice_index of t
     → (a : List ℕ) (b : ℕ) → Was rel l old s a b ↔ Was rel l old t a b
 was_alike rel l None of low was s t ls lt one a b = (λ h. h, λ h. h)
 was_alike rel l (Some old) of low was s t ls lt one a b = ((was.split s t ls lt).0 one).1 a b
 
--- In the following lemmas, the list `shown s` stands for the split signature of the state s. The split signature is
--- empty if the signature of s has not changed since the last round, and otherwise it is the new signature.
+-- In the following lemmas, the list `shown s` stands for the split signature of the state s. The split signature of s
+-- is empty if the signature of s has not changed since the last round, and otherwise it is the new signature.
 module _ (rel : Relation) (l : Grouped) (labelled : Labelled l) (old : Option (List ℕ)) (of : List ℕ) (low : ℕ)
     (size : length of ≡ l.states) (was : Follows rel l old of low) (shown : ℕ → List (ℕ × ℕ)) where
   -- `Each` holds if the state s is in a singleton block (a block with one state), or if the list `shown s` is the split
-  -- signature of s. The split signature is empty if the signature of s has not changed since the last round, and
+  -- signature of s. The split signature of s is empty if the signature of s has not changed since the last round, and
   -- otherwise it is the new signature.
   abbrev Each : ℕ → Type 0
   Each s = IsSingleton of s ⊎ IsSplitSignature rel l old of s (shown s)
 
-  -- `Tells` holds if comparing the lists `shown s` and `shown t` has the same result as comparing the signatures of the
-  -- states s and t: the lists are equal if and only if the signatures are equal.
+  -- `Tells` is about the lists `shown s` and `shown t`, which stand for the split signatures of the states s and t. It
+  -- holds if these two lists are equal if and only if the signatures of s and t are equal.
   abbrev Tells : ℕ → ℕ → Type 0
   Tells s t = (shown s ≡ shown t) ↔ SameSignature rel (system_of l) (slice_index of) s t
 
@@ -93,15 +93,15 @@ module _ (rel : Relation) (l : Grouped) (labelled : Labelled l) (old : Option (L
   one_state s t e = subst (Tells s) e (λ h a b. (λ p. p, λ p. p), λ h. refl)
 
   -- Suppose that the states s and t share a block. Suppose that the signature of s is the same as in the last round,
-  -- and that the signature of t has changed. Then s and t have different signatures.
+  -- and that the signature of t has changed. Then the signatures of s and t are not equal.
   differ : (s t : ℕ) → s < l.states → t < l.states → slice_index of s ≡ slice_index of t → IsAsBefore rel l old of s
       → ¬ IsAsBefore rel l old of t → ¬ SameSignature rel (system_of l) (slice_index of) s t
   differ s t ls lt one p q same =
       q (λ a b. grind (arith, p a b, same a b, was_alike rel l old of low was s t ls lt one a b))
 
-  -- The split signature of a state is empty if its signature has not changed since the last round, and otherwise it is
-  -- the new signature. Suppose that the states s and t share a block. Then their split signatures are equal if and only
-  -- if their signatures are equal.
+  -- The split signature of a state is empty if the signature of the state has not changed since the last round, and
+  -- otherwise it is the new signature. Suppose that the states s and t share a block. Then the split signatures of s
+  -- and t are equal if and only if the signatures of s and t are equal.
   told : (s t : ℕ) → s < l.states → t < l.states → slice_index of s ≡ slice_index of t → Each s → Each t → Tells s t
   told s t ls lt one (inl only) y = one_state s t (sym (only t (omega (arith, lt, size)) (sym one)))
   told s t ls lt one (inr x) (inl only) = one_state s t (only s (omega (arith, ls, size)) one)
@@ -114,9 +114,11 @@ module _ (rel : Relation) (l : Grouped) (labelled : Labelled l) (old : Option (L
       (λ h. absurd (p.0 (h ∙ q.0)), λ h. absurd (differ t s lt ls (sym one) q.1 p.1 (λ a b. ((h a b).1, (h a b).0))))
   told s t ls lt one (inr (inr p)) (inr (inr q)) = equal_lists rel l labelled of s t _ _ p.2 q.2
 
-  -- The split signature of a state is empty if its signature has not changed since the last round, and otherwise it is
-  -- the new signature. If the blocks are split by the split signatures, two states stay together if and only if they
-  -- share a block and have equal signatures (`Split`).
+  -- The split signature of a state is empty if the signature of the state has not changed since the last round, and
+  -- otherwise it is the new signature. Suppose that blocks are split by split signatures: two states share a block
+  -- after the split if and only if they shared a block before the split and have equal split signatures. Then two
+  -- states share a block after the split if and only if they shared a block before the split and have equal signatures
+  -- (`Split`).
   pub split_by_split_signatures : ((s : ℕ) → s < l.states → Each s) → (next : ℕ → ℕ)
       → ((s t : ℕ) → s < l.states → t < l.states
       → (next s ≡ next t) ↔ ((slice_index of s ≡ slice_index of t) × (shown s ≡ shown t)))
@@ -125,8 +127,8 @@ module _ (rel : Relation) (l : Grouped) (labelled : Labelled l) (old : Option (L
       let tells = λ (one : slice_index of s ≡ slice_index of t). told s t ls lt one (each s ls) (each t lt) in
       grind (arith, split s t ls lt, tells)
 
--- `IsUnaffected` holds if each transition of the state s leads to an old block, which is a block with an ID less than
--- `first_new`. All other blocks are new: the last split has made them.
+-- `IsUnaffected` holds if each transition of the state s leads to an old block. A block is old if its ID is less than
+-- `first_new`. The last split has made all other blocks.
 abbrev pub IsUnaffected : System → (ℕ → ℕ) → ℕ → ℕ → Type 0
 IsUnaffected A blocks first_new s = (a : List ℕ) (t : ℕ) → Step A s a t → blocks t < first_new
 
@@ -151,11 +153,11 @@ affected_changed l sys None of low follows s a t step new same = (same a (slice_
 affected_changed l sys (Some old) of low follows s a t step new same =
     grind (arith, common_steps, same a (slice_index of t), follows.below, step_below (system_of l) sys s a)
 
--- The split signature of a state is empty if its signature has not changed since the last round, and otherwise it is
--- the new signature. Suppose that, for each active state (each state that the round processes), the list
--- `signature_ids` has the ID of its split signature. Suppose that this list has the ID of the empty signature for each
--- other state. Suppose also that the data of the round was ready for computing signatures (`IsReadyToSign`). Then the
--- round has computed the signatures correctly (`SignsEach`).
+-- The split signature of a state is empty if the signature of the state has not changed since the last round, and
+-- otherwise it is the new signature. Suppose that the data of the round was ready for computing signatures
+-- (`IsReadyToSign`). Suppose that, for each active state (each state that the round processes), the list
+-- `signature_ids` contains the ID of the split signature of the state. Suppose that, for each other state, this list
+-- contains the ID of the empty signature. Then the round has computed the signatures correctly (`SignsEach`).
 pub strong_signs : (l : Grouped) (old : Option (List ℕ)) (r : Signed) → IsReadyToSign Strong l old r
     → (signatures : List (List (ℕ × ℕ))) (signature_ids : List ℕ) → list_at signatures 0 ≡ []
     → length signature_ids ≡ l.states → InactiveHaveNone r.blocks.active signature_ids

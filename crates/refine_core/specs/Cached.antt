@@ -11,18 +11,19 @@ use Rattle.partition.specs.Splitting.{IsSingleton}
 use Rattle.refine_core.specs.Signatures.{list_of}
 use Rattle.refine_core.specs.Shown.{Was}
 
--- `IsListOf` holds under two conditions. First, the pairs of `list` are in strictly ascending order. Second, for all
--- numbers k and b, `list` contains the pair (k, b) if and only if k is the ID of a label a for which `has a b` holds.
--- Here `has` is a predicate that describes a set of pairs of a label and a block.
+-- `IsListOf` holds if `list` stores the set of pairs that the predicate `has` describes. This set contains the pair of
+-- a label a and a block b if and only if `has a b` holds. Both of the following conditions must hold. First, the pairs
+-- of `list` are in strictly ascending order. Second, `list` contains the pair of a number k and a block b if and only
+-- if k is the ID of a label a for which `has a b` holds.
 abbrev pub IsListOf : Grouped → (List ℕ → ℕ → Type 0) → List (ℕ × ℕ) → Type 0
 IsListOf l has list = IsStrictlySortedBy pair_cmp list
     × ((k b : ℕ) → Contains list (k, b) ↔ ((k < length l.labels) × has (text_of l.labels k) b))
 
--- `CachesIds` holds under two conditions. First, the list `cached` has the ID of an interned signature for each state.
--- Second, for each state that is not in a singleton block (a block with one state), this signature is the branching
--- signature that the state had in the last round. The list `old` has the block IDs in the last round, and the list `of`
--- has the block IDs in this round. If `old` is `None`, each state is taken to have had the empty signature in the last
--- round.
+-- `CachesIds` holds if both of the following conditions hold. First, the list `cached` contains the ID of an interned
+-- signature for each state. Second, if a state is not in a singleton block (a block with one state), `cached` contains
+-- the ID of the branching signature that the state had in the last round. The argument `old` contains the block IDs of
+-- all states in the last round, and the list `of` contains their block IDs in this round. If `old` is `None`, the
+-- signature of each state in the last round is taken to be empty.
 pub record CachesIds (l : Grouped) (of : List ℕ) (signatures : List (List (ℕ × ℕ))) (cached : List ℕ)
     (old : Option (List ℕ)) : Type 0 where
   pub states : length cached ≡ l.states

@@ -1,7 +1,7 @@
--- The data of a round (`Signed`) includes the blocks, the active states, the signatures, and the predecessor index. A
--- round processes only the active states. This file defines what must hold for this data at the beginning of a round,
--- when the signatures are computed, and after the split. The definitions make sure that the states that are not active
--- need not be processed.
+-- The data of a round (`Signed`) includes the blocks, the active states, the signatures, and the predecessor index,
+-- which stores the transitions that lead to each state. A round processes only the active states. This file defines
+-- what must hold for the data of a round at three times: when the round begins, when it computes signatures, and when
+-- it has split the blocks. The definitions make sure that states that are not active need not be processed.
 use Rattle.std.specs.Prelude.{◌≡◌, ◌⊎◌, ℕ, ◌<◌, List, [], ◌∷◌, length, slice_index, Option, None, Some, IfSome}
 use Rattle.theory.specs.declared.relation.Relation.{Relation}
 use Rattle.theory.specs.declared.relation.Relation.TheVariants.{Branching}
@@ -15,26 +15,26 @@ use Rattle.refine_core.specs.Cached.{CachesIds}
 use Rattle.refine_core.specs.Index.{HasIndex, SearchIsComplete}
 
 -- `AreAllActive` holds if each state is active (processed by the round), is in a singleton block (a block with one
--- state), or has no transition. The list `blocks` has the block ID of each state, and the list `active` has the active
--- states.
+-- state), or has no outgoing transition. The list `blocks` contains the block ID of each state, and the list `active`
+-- contains the active states.
 abbrev pub AreAllActive : Grouped → List ℕ → List ℕ → Type 0
 AreAllActive l blocks active = (s : ℕ) → s < l.states → IsMember active s ⊎ IsSingleton blocks s
     ⊎ (row_of s l.places ≡ [])
 
 -- `OthersKeepSignatures` holds if each state is active (processed by the round), is in a singleton block (a block with
--- one state), or has the same signature as in the last round (`IsAsBefore`). The record p has the blocks and the active
--- states of this round. The argument `old` has the block IDs in the last round.
+-- one state), or has the same signature as in the last round (`IsAsBefore`). The record p contains the blocks and the
+-- active states of this round. The argument `old` contains the block IDs of all states in the last round.
 abbrev pub OthersKeepSignatures : Relation → Grouped → Option (List ℕ) → RoundBlocks → Type 0
 OthersKeepSignatures rel l old p = (s : ℕ) → s < l.states → IsMember p.active s ⊎ IsSingleton p.block_ids s
     ⊎ IsAsBefore rel l old p.block_ids s
 
--- `Awaits` holds if r, the data of a round (`Signed`), is ready for a new round. The field `old` has the block IDs in
--- the last round, or is `None` if no round has run yet. The blocks of r must result from splitting the blocks of the
--- last round (`Follows`). If no round has run yet, all blocks must count as new for strong bisimilarity. If there is no
--- predecessor index, each state must be active (processed by the round), be in a singleton block, or have no
--- transition. If there is a predecessor index, it must be an index of the system `l` (`HasIndex`). In this case, a
--- round must have run before, and for branching bisimilarity, the signatures of that round must be cached
--- (`CachesIds`).
+-- `Awaits` holds if r, the data of a round (`Signed`), is ready for a new round. The field `old` contains the block IDs
+-- of all states in the last round, or is `None` if no round has run yet. If a round has run, the blocks of r must
+-- result from splitting the blocks of the last round (`Follows`). If no round has run yet, all blocks must count as new
+-- for strong bisimilarity. If there is no predecessor index, each state must be active (processed by the round), be in
+-- a singleton block, or have no outgoing transition. If there is a predecessor index, it must be an index of the system
+-- `l` (`HasIndex`). If there is a predecessor index, a round must have run before, and for branching bisimilarity, the
+-- signatures of the last round must be cached (`CachesIds`).
 pub record Awaits (rel : Relation) (l : Grouped) (r : Signed) : Type 0 where
   pub states : length r.blocks.block_ids ≡ l.states
   pub old : Option (List ℕ)
@@ -45,12 +45,13 @@ pub record Awaits (rel : Relation) (l : Grouped) (r : Signed) : Type 0 where
       × (rel ≡ Branching → CachesIds l r.blocks.block_ids r.signatures r.cached old)
 
 -- `IsReadyToSign` holds if r, the data of a round (`Signed`), is ready for computing the signatures of the active
--- states, which are the states that the round processes. The argument `old` has the block IDs in the last round, and
--- the blocks of r must result from splitting these blocks (`Follows`). Each state that is neither active nor in a
--- singleton block must have the same signature as in the last round. For branching bisimilarity, the signatures of the
--- last round must be cached. If `old` is `None`, no round has run yet, or all signatures have been discarded since the
--- last round. Then the signature of each state in the last round is taken to be empty. For branching bisimilarity, the
--- cached signature of each state must then be empty, too.
+-- states, which are the states that the round processes. The argument `old` contains the block IDs of all states in the
+-- last round, and the blocks of r must result from splitting the blocks of the last round (`Follows`). Each state that
+-- is neither active nor in a singleton block must have the same signature as in the last round. For branching
+-- bisimilarity, the signatures of the last round must be cached (`CachesIds`). If `old` is `None`, no round has run
+-- yet, or all signatures have been discarded since the last round. If `old` is `None`, the signature of each state in
+-- the last round is taken to be empty, and for branching bisimilarity, the cached signature of each state must be
+-- empty.
 pub record IsReadyToSign (rel : Relation) (l : Grouped) (old : Option (List ℕ)) (r : Signed) : Type 0 where
   pub others : OthersKeepSignatures rel l old r.blocks
   pub follows : Follows rel l old r.blocks.block_ids r.blocks.first_new
@@ -58,10 +59,11 @@ pub record IsReadyToSign (rel : Relation) (l : Grouped) (old : Option (List ℕ)
   pub empty : rel ≡ Branching → old ≡ None → (s : ℕ) → slice_index r.cached s ≡ 0
 
 -- `IsBegun` holds if r, the data of a round (`Signed`), is ready for computing the signatures of the active states
--- (`IsReadyToSign`). The record p has the blocks and the active states with which the round started. The blocks of r
--- must be the same as in p, but other states may be active (processed by the round). If there is no predecessor index,
--- each state must be active, be in a singleton block, or have no transition. If there is a predecessor index, it must
--- be an index of the system `l` (`HasIndex`). The field `old` has the block IDs in the last round.
+-- (`IsReadyToSign`). The record p contains the blocks and the active states with which the round started. The blocks of
+-- r must be the same as the blocks of p, but the active states of r (the states that the round processes) may be
+-- different. If there is no predecessor index, each state must be active, be in a singleton block, or have no outgoing
+-- transition. If there is a predecessor index, it must be an index of the system `l` (`HasIndex`). The field `old`
+-- contains the block IDs of all states in the last round.
 pub record IsBegun (rel : Relation) (l : Grouped) (p : RoundBlocks) (r : Signed) : Type 0 where
   pub old : Option (List ℕ)
   pub blocks : r.blocks ≡ record p { active = r.blocks.active }
@@ -69,10 +71,10 @@ pub record IsBegun (rel : Relation) (l : Grouped) (p : RoundBlocks) (r : Signed)
   pub index : IfSome r.index (HasIndex rel l r.blocks.block_ids)
   pub ready : IsReadyToSign rel l old r
 
--- `MayBuildIndex` compares the data p of a round with its data r after a step that may build the predecessor index. If
--- there is no index in r, the step must not have changed the data. If there is an index in r, it must be an index of the
--- system `l` (`HasIndex`), and the step must have discarded all interned signatures except the empty signature. In both
--- cases, the step must not have changed the blocks and the cached signature IDs.
+-- `MayBuildIndex` is about the step of a round that may build the predecessor index. The data of the round is p before
+-- the step, and r after the step. The step must not have changed the blocks and the cached signature IDs. If r contains
+-- no index, the step must not have changed any data. If r contains an index, it must be an index of the system `l`
+-- (`HasIndex`), and the step must have discarded all interned signatures except the empty signature.
 pub record MayBuildIndex (rel : Relation) (l : Grouped) (p r : Signed) : Type 0 where
   pub blocks : r.blocks ≡ p.blocks
   pub cached : r.cached ≡ p.cached
@@ -80,10 +82,11 @@ pub record MayBuildIndex (rel : Relation) (l : Grouped) (p r : Signed) : Type 0 
   pub built : ¬ (r.index ≡ None) → r.signatures ≡ [] ∷ []
   pub index : IfSome r.index (HasIndex rel l r.blocks.block_ids)
 
--- `Restarts` holds if a round processes all states again, without any signatures of earlier rounds. The data of the
--- round is p before the step that starts again, and r afterwards. This step must not have changed the blocks, the
--- predecessor index, and the visited transitions. In r, all signatures except the empty signature must have been
--- discarded, and each state must be active (processed by the round), be in a singleton block, or have no transition.
+-- `Restarts` is about the step of a round that discards all signatures of earlier rounds, and then activates all states
+-- that have an outgoing transition and are not in a singleton block (a block with one state). The data of the round is
+-- p before the step, and r after the step. The step must not have changed the blocks, the predecessor index, and the
+-- set of visited transitions. In r, all signatures except the empty signature must have been discarded. Each state of r
+-- must be active (processed by the round), be in a singleton block, or have no outgoing transition.
 pub record Restarts (l : Grouped) (p r : Signed) : Type 0 where
   pub blocks : r.blocks ≡ record p.blocks { active = r.blocks.active }
   pub index : r.index ≡ p.index
@@ -92,9 +95,10 @@ pub record Restarts (l : Grouped) (p r : Signed) : Type 0 where
   pub discarded : HasNoSignatures r.blocks.block_ids r.signatures r.cached
 
 -- `HasSearched` holds if the round has searched the predecessor index. The data of the round is p before the search,
--- and r after the search. There must still be an index of the system `l` (`HasIndex`). The active states of r, which
--- are the states that the round processes, must include all states that the search has to find (`SearchIsComplete`).
--- The search must not have changed the blocks, the interned signatures, and the cached signature IDs.
+-- and r after the search. In r, there must be a predecessor index, and it must be an index of the system `l`
+-- (`HasIndex`). The active states of r, which are the states that the round processes, must include all states that the
+-- search has to find (`SearchIsComplete`). The search must not have changed the blocks, the interned signatures, and
+-- the cached signature IDs.
 pub record HasSearched (rel : Relation) (l : Grouped) (p r : Signed) : Type 0 where
   pub blocks : r.blocks ≡ record p.blocks { active = r.blocks.active }
   pub some : ¬ (r.index ≡ None)
@@ -103,13 +107,14 @@ pub record HasSearched (rel : Relation) (l : Grouped) (p r : Signed) : Type 0 wh
   pub signatures : r.signatures ≡ p.signatures
   pub cached : r.cached ≡ p.cached
 
--- `SignsEach` holds if the round has computed the signatures of the active states, which are the states that it
--- processes. The split signature of a state is empty if its signature has not changed since the last round, and
--- otherwise it is the new signature. For each state that is not in a singleton block, `signature_ids` must have the ID
--- of its split signature (`IsSplitSignature`). For branching bisimilarity, the new signatures must be cached for the
--- next round (`CachesIds`). The argument `old` has the block IDs in the last round. If `old` is `None`, no round has
--- run yet, or all signatures have been discarded since the last round. For each active state, `signature_ids` must then
--- have the ID of its signature.
+-- `SignsEach` holds if the round has computed the signatures of the active states, which are the states that the round
+-- processes. The data of the round is r. The split signature of a state is empty if the signature of the state has not
+-- changed since the last round, and otherwise it is the new signature. For each state that is not in a singleton block,
+-- `signature_ids` must contain the ID of the split signature of the state (`IsSplitSignature`). For branching
+-- bisimilarity, the new signatures must be cached for the next round (`CachesIds`). The argument `old` contains the
+-- block IDs of all states in the last round. If `old` is `None`, no round has run yet, or all signatures have been
+-- discarded since the last round. If `old` is `None`, `signature_ids` must contain the ID of the signature of each
+-- active state.
 pub record SignsEach (rel : Relation) (l : Grouped) (old : Option (List ℕ)) (r : Signed) : Type 0 where
   pub each : (s : ℕ) → s < l.states → IsSingleton r.blocks.block_ids s
       ⊎ IsSplitSignature rel l old r.blocks.block_ids s (list_of r.signatures r.signature_ids s)
@@ -119,8 +124,9 @@ pub record SignsEach (rel : Relation) (l : Grouped) (old : Option (List ℕ)) (r
 
 -- `SignsRound` is about the step of a round that computes the signatures of the active states, which are the states
 -- that the round processes. The data of the round is p before the step, and r after the step. The step must not have
--- changed the blocks and the predecessor index. Let `old` be any block IDs of the last round for which p was ready for
--- the step (`IsReadyToSign`). Then the signatures in r must be correct for these block IDs (`SignsEach`).
+-- changed the blocks and the predecessor index. Suppose that p was ready for the step with respect to some block IDs
+-- `old` of the last round (`IsReadyToSign`). Then the signatures in r must be correct with respect to these block IDs
+-- (`SignsEach`).
 pub record SignsRound (rel : Relation) (l : Grouped) (p r : Signed) : Type 0 where
   pub blocks : r.blocks ≡ p.blocks
   pub index : r.index ≡ p.index

@@ -1,7 +1,6 @@
--- This file defines the split signature of a state: the signature by which a split separates the state from other
--- states of its block. The split signature of a state is empty if its signature has not changed since the last round,
--- and otherwise it is the new signature. This file also defines how the blocks of this round result from the blocks of
--- the last round.
+-- A split separates two states of a block if their split signatures differ. The split signature of a state is empty if
+-- the signature of the state has not changed since the last round, and otherwise it is the new signature. This file
+-- defines split signatures, and how the blocks of this round result from the blocks of the last round.
 use Rattle.std.specs.Prelude.{◌≡◌, ◌⊎◌, ◌↔◌, ℕ, ◌<◌, ◌≤◌, List, [], slice_index, Option, None, Some}
 use Rattle.std.specs.List.{Contains}
 use Rattle.theory.specs.declared.relation.Relation.{Relation}
@@ -12,37 +11,38 @@ use Rattle.lts.specs.Lts.{Grouped, system_of}
 use Rattle.inert.specs.Signed.{IsSignature}
 
 -- `Was` holds if the signature of the state s in the last round contained the pair (a, b) of a label and a block. The
--- argument `old` has the block IDs in the last round. If `old` is `None`, no round has run yet, or all signatures have
--- been discarded since the last round. In this case, the signature in the last round is taken to be empty, and `Was`
--- does not hold.
+-- argument `old` contains the block IDs of all states in the last round. If `old` is `None`, no round has run yet, or
+-- all signatures have been discarded since the last round. If `old` is `None`, the signature in the last round is taken
+-- to be empty, so `Was` is false.
 abbrev pub Was : Relation → Grouped → Option (List ℕ) → ℕ → List ℕ → ℕ → Type 0
 Was rel l None s a b = ⊥
 Was rel l (Some old) s a b = Signature rel (system_of l) (slice_index old) s a b
 
--- `IsAsBefore` holds if the signature of the state s is the same as in the last round (`Was`). The list `of` has the
--- block IDs in this round, and the argument `old` has the block IDs in the last round.
+-- `IsAsBefore` holds if the signature of the state s is the same as in the last round (`Was`). The list `of` contains
+-- the block IDs of all states in this round, and the argument `old` contains their block IDs in the last round.
 abbrev pub IsAsBefore : Relation → Grouped → Option (List ℕ) → List ℕ → ℕ → Type 0
 IsAsBefore rel l old of s =
     (a : List ℕ) (b : ℕ) → Signature rel (system_of l) (slice_index of) s a b ↔ Was rel l old s a b
 
--- `IsSplitSignature` holds if `list` is the split signature of the state s, by which a split separates s from other
--- states of its block. If the signature of s is the same as in the last round, `list` must be empty. Otherwise, `list`
--- must be the new signature of s, and must not be empty.
+-- `IsSplitSignature` holds if `list` is the split signature of the state s. A split separates two states of a block if
+-- their split signatures differ. If the signature of s is the same as in the last round, `list` must be empty.
+-- Otherwise, `list` must be the new signature of s, and must not be empty.
 abbrev pub IsSplitSignature : Relation → Grouped → Option (List ℕ) → List ℕ → ℕ → List (ℕ × ℕ) → Type 0
 IsSplitSignature rel l old of s list = ((list ≡ []) × IsAsBefore rel l old of s)
     ⊎ (¬ (list ≡ []) × ¬ IsAsBefore rel l old of s × IsSignature rel l of s list)
 
--- `IsLastSplit` holds under three conditions. First, the blocks `of` result from splitting the blocks `old` by
--- signatures (`Split`). Second, each block ID in `old` is less than `first_new`. Third, if the block ID of a state in
--- `of` is less than `first_new`, then the state has the same block ID in `old`.
+-- The lists `old` and `of` contain the block IDs of all states before and after a split. `IsLastSplit` holds if all
+-- three of the following conditions hold. First, the blocks `of` result from splitting the blocks `old` by signatures
+-- (`Split`). Second, each block ID in `old` is less than `first_new`. Third, if the block ID of a state in `of` is less
+-- than `first_new`, then the state has the same block ID in `old`.
 pub record IsLastSplit (rel : Relation) (l : Grouped) (old of : List ℕ) (first_new : ℕ) : Type 0 where
   pub split : Split rel (system_of l) (slice_index old) (slice_index of)
   pub below : (s : ℕ) → s < l.states → slice_index old s < first_new
   pub stays : KeepsBlockIds (system_of l) (slice_index old) (slice_index of) first_new
 
 -- `Follows` holds if the blocks `of` result from splitting the blocks `old` of the last round (`IsLastSplit`). If `old`
--- is `None`, no round has run yet, or all signatures have been discarded since the last round. In this case,
--- `first_new` must be 0 for strong bisimilarity, so that all blocks count as new.
+-- is `None`, no round has run yet, or all signatures have been discarded since the last round. If `old` is `None` and
+-- the relation is strong bisimilarity, `first_new` must be 0, so that all blocks count as new.
 abbrev pub Follows : Relation → Grouped → Option (List ℕ) → List ℕ → ℕ → Type 0
 Follows rel l None of first_new = rel ≡ Strong → first_new ≡ 0
 Follows rel l (Some old) of first_new = IsLastSplit rel l old of first_new
@@ -54,8 +54,9 @@ HasNewBlock first_new pairs = (z : ℕ × ℕ) × Contains pairs z × (first_new
 
 -- `IsStrongSplitSignature` holds if `list` is the split signature of the state s for strong bisimilarity
 -- (`IsSplitSignature`). This means that `list` is empty if the signature of s has not changed since the last round, and
--- otherwise is the new signature of s. The definition has no argument for the blocks of the last round. So `list` must
--- be the split signature for all blocks of the last round from which a split can have made the blocks `of` (`Follows`).
+-- otherwise is the new signature of s. The definition has no argument for the blocks of the last round. Instead, `list`
+-- must be the split signature of s for every choice of blocks of the last round from which a split can have made the
+-- blocks `of` (`Follows`).
 abbrev pub IsStrongSplitSignature : Grouped → List ℕ → ℕ → ℕ → List (ℕ × ℕ) → Type 0
 IsStrongSplitSignature l of first_new s list = (old : Option (List ℕ)) → Follows Strong l old of first_new
     → IsSplitSignature Strong l old of s list

@@ -1,6 +1,7 @@
-//! Rounds of refinement for branching bisimilarity. A transition is inert if it is internal and does not leave its
-//! block. Let s be a state, and consider the states that s reaches by inert transitions, including s itself. The
-//! signature of s has the pair (label, target block) of each transition of these states that is not inert.
+//! Rounds of refinement for branching bisimilarity. A transition is inert if it is internal, and if its source and its
+//! target are in the same block. Let s be a state, and consider the states that s reaches by inert transitions,
+//! including s itself. For each transition from one of these states, the signature of s contains the pair (label,
+//! target block) of the transition, unless the transition is inert.
 ghost use Rattle.theory.specs.declared.relation.Relation.TheVariants.{Branching as branching};
 
 use crate::signed_blocks::SignedBlocks;

@@ -15,13 +15,13 @@ use partition::{Blocks, Partition, renumber, renumberings_are_few};
 use std::alloc::Global;
 
 /// Starts with one block that contains all states, and splits blocks in each round until two states share a block if
-/// and only if they are bisimilar. Returns these blocks. The last round is the first round that splits no block. The
-/// meter counts the last round as one of the rounds. In each round, the number of visits (counted reads of transitions)
-/// equals the number of transitions.
+/// and only if they are bisimilar. Returns the blocks after the last round. The last round is the first round that
+/// splits no block, and the meter counts it, too. A visit is a read of a transition that the meter counts. In each
+/// round, the number of visits equals the number of transitions.
 ///
-/// The blocks result from a sequence of splits in which the block ID of each state changes at most log2 n times, where
-/// n is the number of states. If the call fails, the meter has counted at most n rounds, and the number of visits is at
-/// most the number of these rounds times the number of transitions.
+/// The returned blocks result from a sequence of splits in which the block ID of each state changes at most log2 n
+/// times, where n is the number of states. If the call fails, the meter has counted at most n rounds. The number of
+/// visits is then at most the number of the counted rounds times the number of transitions.
 pub fn refine_blocks<S: Signing, M: Meter>(
     alloc: Global,
     l: &Lts<M>,
@@ -62,9 +62,9 @@ pub fn refine_blocks<S: Signing, M: Meter>(
     }
 }
 
-/// Returns the same blocks as `refine_blocks`, but numbers them in the order of their least members. If the call fails,
-/// the meter has counted at most n rounds, where n is the number of states. The number of visits (counted reads of
-/// transitions) is then at most the number of these rounds times the number of transitions.
+/// Returns the same blocks as `refine_blocks`, but numbers the blocks in the order of their smallest states. If the
+/// call fails, the meter has counted at most n rounds, where n is the number of states. The number of visits (reads of
+/// transitions that the meter counts) is then at most the number of the counted rounds times the number of transitions.
 pub fn refine<S: Signing, M: Meter>(
     alloc: Global,
     l: &Lts<M>,
@@ -91,8 +91,8 @@ pub fn refine<S: Signing, M: Meter>(
 }
 
 /// Makes one round: finds the active states (the states that the round processes), computes their signatures, and
-/// splits the blocks by these signatures (`Split`). If the call fails, the meter has counted at most one round, and the
-/// number of visits (counted reads of transitions) is at most the number of transitions.
+/// splits the blocks by these signatures (`Split`). If the call fails, the meter has counted at most one round. The
+/// number of visits (reads of transitions that the meter counts) is then at most the number of transitions.
 fn next_round<S: Signing, M: Meter>(
     round: SignedBlocks,
     l: &Lts<M>,

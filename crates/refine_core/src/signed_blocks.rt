@@ -1,5 +1,5 @@
-//! The data of a refinement between two of its steps: the blocks, the active states (the states that the round
-//! processes), the signatures, and the predecessor index.
+//! The data of a round of refinement: the blocks, the active states (the states that the round processes), the
+//! signatures, and the predecessor index, which stores the transitions that lead to each state.
 ghost use Rattle.std.specs.Prelude.{◌≡◌, ◌⊎◌, ℕ, ◌+◌, ◌*◌, ◌<◌, ◌≤◌, [], length, slice_index, IfOk, None};
 ghost use Rattle.memory.specs.declared.limits.TheConstants.{MOST_STATES};
 ghost use Rattle.signatures.specs.Lists.{AreLists};
@@ -20,52 +20,55 @@ use std::marker::Model;
 use theory::Relation;
 
 /// A block is new if the last split has made it. A round is late if the number of new blocks is less than the number of
-/// all blocks divided by `LATE_ROUND_FRACTION`, rounded down. The rounds that follow a late round usually have few
-/// states to process.
+/// all blocks divided by `LATE_ROUND_FRACTION`, rounded down. After a late round, usually only few states have to be
+/// processed.
 const LATE_ROUND_FRACTION: u32 = 4;
 
-/// A round is late if few blocks are new. The method `SignedBlocks::needs_index` defines the work of a late round. The
-/// predecessor index is built in the first late round that satisfies one condition: the work of all earlier late rounds
-/// together is at least n times the number of all states. The number n depends on the system, and this constant is the
-/// largest possible n. If states have many transitions, building the index takes as much time as three rounds that
-/// process all states.
+/// A round is late if few blocks are new. The method `SignedBlocks::needs_index` defines the work of a late round as a
+/// number. For each system, there is a number n such that the predecessor index is built in a late round if the work of
+/// all earlier late rounds together is at least n times the number of all states. This constant is the largest possible
+/// n. If states have many transitions, building the index takes as much time as three rounds that process all states.
 const MOST_FULL_ROUNDS: u32 = 6;
 
 /// If states have few transitions, building the predecessor index takes less time, so the index is built after less
-/// work. Take the average number of transitions of a state, divide it by `ROW_LENGTH_PER_FULL_ROUND`, and round down.
-/// Let n be the result, but at most `MOST_FULL_ROUNDS`. The index is built in the first late round (a round in which
-/// few blocks are new) that satisfies one condition: the work of all earlier late rounds together is at least n times
-/// the number of all states. The method `SignedBlocks::needs_index` defines the work of a late round.
+/// work. The index is built in a late round (a round in which few blocks are new) if the work of all earlier late
+/// rounds together is at least n times the number of all states. To compute n, the average number of transitions of a
+/// state is divided by `ROW_LENGTH_PER_FULL_ROUND`, and rounded down. If the result is greater than `MOST_FULL_ROUNDS`,
+/// n is `MOST_FULL_ROUNDS` instead. The method `SignedBlocks::needs_index` defines the work of a late round.
 const ROW_LENGTH_PER_FULL_ROUND: u32 = 2;
 
-/// A round that has no predecessor index goes through all blocks. Going through this number of blocks takes less time
-/// than processing one state.
+/// A round without a predecessor index goes through all blocks. The time for going through this number of blocks is
+/// less than the time for processing one state.
 const BLOCKS_PER_STATE: u32 = 8;
 
-/// The blocks, the signatures, and the predecessor index of a round. The signatures are interned in `signatures`. For
-/// each state that the round processes, `signature_ids` has the ID of the signature by which the split separates the
-/// state from other states of its block. For each other state, `signature_ids` has the ID of the empty signature.
+/// The blocks, the signatures, and the predecessor index of a round. The signatures are interned in `signatures`: equal
+/// signatures are stored once and have the same ID. A split separates two states of a block if `signature_ids` contains
+/// different IDs for the two states. For each state that the round does not process, `signature_ids` contains the ID of
+/// the empty signature.
 #[derive(Drop)]
 pub struct SignedBlocks {
     pub(crate) alloc: Global,
     pub(crate) blocks: Blocks,
     pub(crate) signatures: Interner,
     pub(crate) signature_ids: Vec<u32>,
-    /// Computes branching signatures. For each state, the signer caches the ID of its signature from round to round.
+    /// Computes branching signatures. For each state, the signer caches the ID of the signature of the state from round
+    /// to round.
     pub(crate) signer: Signer,
-    /// The pairs (label, target block) of the transitions of one state. The same memory is used for one state after the
-    /// other.
+    /// The pairs (label, target block) of the transitions of one state. The same vector is used for all states, one
+    /// after the other.
     pub(crate) pairs: Vec<(u32, u32)>,
     /// The predecessor index, or `None` before it is built. Without an index, a round processes the same states as the
     /// round before, except for the states that `drop_singletons` drops. With an index, each round begins with a search
-    /// for the states that it processes, or processes all states that can be split (`activate_all`).
+    /// for the states that it has to process, unless the round discards all signatures. A round that discards all
+    /// signatures processes all states that have an outgoing transition and are not in a singleton block
+    /// (`activate_all`).
     pub(crate) index: Option<Predecessors>,
     pub(crate) visited: Visited,
-    /// If there is a predecessor index, this is the number of signatures that may be stored after a round. If more
-    /// signatures are stored, the next round begins by discarding all signatures.
+    /// If more signatures than this number are stored after a round, the next round begins by discarding all
+    /// signatures. Before the predecessor index is built, this number is the largest `u32`.
     pub(crate) most_signatures: u32,
     /// The total work of all late rounds that were made without a predecessor index. A round is late if few blocks are
-    /// new. The method `needs_index` defines the work of a late round.
+    /// new. The method `needs_index` defines the work of a late round as a number.
     late_work: u64,
 }
 
@@ -87,8 +90,8 @@ impl Model for SignedBlocks {
 }
 
 impl SignedBlocks {
-    /// Returns the data for a first round with the blocks `blocks`. Each state has the empty signature, and there is no
-    /// predecessor index.
+    /// Returns the data for a first round that starts with the blocks `blocks`. In this data, each state has the empty
+    /// signature, and there is no predecessor index.
     pub fn new(alloc: Global, blocks: Blocks) -> Result<SignedBlocks, Memory>
         ensures blocks { IfOk result (λ r. r.blocks ≡ blocks) }
         ensures absent { IfOk result (λ r. r.index ≡ None) }
@@ -116,8 +119,8 @@ impl SignedBlocks {
         self.blocks.count()
     }
 
-    /// Returns the interned signatures and, for each state, the ID of the signature by which the split separates the
-    /// state from other states of its block. Frees all other memory.
+    /// Returns the interned signatures and the list `signature_ids`, which contains a signature ID for each state.
+    /// Frees all other memory.
     pub fn into_signatures(self) -> (Interner, Vec<u32>)
         ensures { (result.0 ≡ self.signatures) × (result.1.items ≡ self.signature_ids) }
     {
@@ -131,8 +134,8 @@ impl SignedBlocks {
         self.blocks
     }
 
-    /// This method is a lemma, and does nothing when it runs. Its contract states what always holds for the blocks, for
-    /// the active states (the states that the round processes), and for the signatures.
+    /// This method is a lemma, and does nothing when it runs. The contract of this method states what always holds for
+    /// the blocks, for the active states (the states that the round processes), and for the signatures.
     pub fn invariants(&self)
         ensures blocks { AreBlocks self.now.blocks.block_ids self.now.blocks.count }
         ensures signatures { AreLists self.now.signatures }
@@ -145,11 +148,11 @@ impl SignedBlocks {
         let _ = self.blocks.block_ids();
     }
 
-    /// The active states are the states that the round processes. This function drops the states in singleton blocks
-    /// (blocks with one state) from the active states, and gives them the empty signature. It does so only under one
-    /// condition: the number of singleton blocks has grown by more than 1/32 of the number of active states since
-    /// states were last dropped. If there is a predecessor index, the function does nothing, because the search in the
-    /// index never finds states in singleton blocks.
+    /// The active states are the states that the round processes, and a singleton block is a block with one state. If
+    /// the number of singleton blocks has grown by more than 1/32 of the number of active states since states were last
+    /// dropped, this function drops the states in singleton blocks from the active states. Each dropped state gets the
+    /// empty signature. If there is a predecessor index, the function does nothing, because the search in the index
+    /// never finds states in singleton blocks.
     pub fn drop_singletons(mut self) -> Result<SignedBlocks, Memory>
         ensures same { IfOk result (λ r. r ≡ record self {
           blocks = record self.blocks { active = r.blocks.active };
@@ -169,7 +172,8 @@ impl SignedBlocks {
         Ok(SignedBlocks { blocks, ..self })
     }
 
-    /// Discards all signatures, including the cached signatures. Afterwards, each state has the empty signature.
+    /// Discards all signatures, including the signatures that are cached from round to round. After the call, each
+    /// state has the empty signature.
     pub fn discard_signatures(mut self) -> Result<SignedBlocks, Memory>
         ensures same { IfOk result (λ r. (r.blocks ≡ self.blocks) × (r.index ≡ self.index)
             × (r.visited ≡ self.visited)) }
@@ -186,8 +190,8 @@ impl SignedBlocks {
 
     /// A block is new if the last split has made it, and a round is late if few blocks are new. This method builds the
     /// predecessor index if this round is late, and if the earlier late rounds together have done enough work
-    /// (`needs_index`). If the method builds the index, it visits (reads and counts) each transition once, and it
-    /// discards all interned signatures except the empty signature.
+    /// (`needs_index`). A visit is a read of a transition that the meter counts. If the method builds the index, it
+    /// visits each transition once, and discards all interned signatures except the empty signature.
     pub fn begin_index<M: Meter>(
         mut self,
         l: &Lts<M>,
@@ -226,12 +230,12 @@ impl SignedBlocks {
     /// a round is late if fewer than a quarter of the blocks are new. The work of a late round without an index is the
     /// number of states that it processes, plus the number of blocks divided by `BLOCKS_PER_STATE`.
     ///
-    /// Let n be half of the average number of transitions of a state. The number n is rounded down, and is at most
-    /// `MOST_FULL_ROUNDS`. A late round has to build the index if the work of all late rounds before it is at least n
-    /// times the number of all states. If a late round does not have to build the index, the call adds the work of this
-    /// round to `late_work`. All late rounds without an index together take at most about twice as long as building the
-    /// index; n was chosen for this purpose. If most states are in singleton blocks, a round processes few states, and
-    /// the index is built later or never.
+    /// Let n be half of the average number of transitions of a state, rounded down, but at most `MOST_FULL_ROUNDS`. A
+    /// late round has to build the index if the work of all late rounds before it is at least n times the number of all
+    /// states. If a late round does not have to build the index, the call adds the work of this round to `late_work`.
+    /// The number n was chosen so that all late rounds without an index together take at most about twice as long as
+    /// building the index. If most states are in singleton blocks (blocks with one state), a round processes few
+    /// states, and the index is built later or never.
     fn needs_index<M: Meter>(&mut self, l: &Lts<M>) -> bool
         ensures { self.new ≡ self.old }
     {
@@ -249,7 +253,8 @@ impl SignedBlocks {
         false
     }
 
-    /// Empties the set of visited transitions. Each round calls this function at its beginning.
+    /// Empties the set of the transitions that were visited (read and counted) in the last round. Each round calls this
+    /// function at its beginning.
     pub fn clear_visited(mut self) -> SignedBlocks
         ensures { result ≡ record self { visited = [] } }
     {
@@ -257,10 +262,11 @@ impl SignedBlocks {
         self
     }
 
-    /// Searches the predecessor index for the active states of this round (the states that the round processes). The
-    /// search starts at the states of new blocks, which are the blocks that the last split has made. It looks up the
-    /// transitions that lead to these states. For branching bisimilarity, it then goes back along inert transitions.
-    /// Each lookup is a visit (a counted read of a transition).
+    /// Searches the predecessor index `predecessors` for the active states of this round, which are the states that the
+    /// round processes. The index is stored in the returned data. The search starts at the states of new blocks, which
+    /// are the blocks that the last split has made, and looks up the transitions that lead to these states. For
+    /// branching bisimilarity, the search then goes back along inert transitions. Each lookup is a visit (a read of a
+    /// transition that the meter counts).
     pub(crate) fn find_active<M: Meter>(
         mut self,
         predecessors: Predecessors,
@@ -297,8 +303,8 @@ impl SignedBlocks {
         })
     }
 
-    /// Discards all signatures, and activates all states that can be split: the states that have a transition and are
-    /// not in a singleton block (`splittable_states`).
+    /// Discards all signatures, and activates all states that have an outgoing transition and are not in a singleton
+    /// block (a block with one state). The round then processes the activated states.
     pub(crate) fn activate_all<M: Meter>(self, l: &Lts<M>) -> Result<SignedBlocks, Memory>
         requires states { length self.blocks.block_ids ≡ l.now.states }
         ensures { IfOk result (Restarts l.now self) }
@@ -314,8 +320,8 @@ impl SignedBlocks {
         })
     }
 
-    /// Splits the blocks. Two states of a block stay together if and only if `signature_ids` has the same ID for both
-    /// states.
+    /// Splits the blocks. Two states of a block stay together if and only if `signature_ids` contains the same ID for
+    /// both states.
     pub fn split(self) -> Result<SignedBlocks, Memory>
         ensures same { IfOk result (λ q. q ≡ record self { blocks = q.blocks }) }
         ensures split { IfOk result
@@ -327,9 +333,9 @@ impl SignedBlocks {
     }
 }
 
-/// Returns the value of `most_signatures`: if more signatures than this number are stored, all signatures are
-/// discarded. A round that processes the states in `active` makes at most one signature for each of these states, and
-/// the empty signature. The result is twice this number of signatures.
+/// Returns the limit `most_signatures`: if more signatures than this limit are stored after a round, the next round
+/// discards all signatures. A round that processes the states in `active` makes at most one signature for each of these
+/// states, and the empty signature. The limit is twice this number of signatures.
 fn most_signatures(active: &[u32]) -> u32
     requires { length active.now ≤ MOST_STATES }
     ensures { result ≡ 2 * (length active.now + 1) }
@@ -337,8 +343,9 @@ fn most_signatures(active: &[u32]) -> u32
     2 * (active.len() as u32 + 1)
 }
 
-/// Returns the states that have a transition and are not in a singleton block, in ascending order. The header of an
-/// `.aut` file can declare many states without an outgoing transition, and rounds need not process these states.
+/// Returns, in ascending order, the states that have an outgoing transition and are not in a singleton block (a block
+/// with one state). The header of an `.aut` file can declare many states without an outgoing transition, and rounds
+/// need not process such states.
 pub(crate) fn splittable_states<M: Meter>(
     alloc: Global,
     blocks: &Blocks,
@@ -362,8 +369,8 @@ pub(crate) fn splittable_states<M: Meter>(
     Ok(active)
 }
 
-/// Sets the signature ID of each state in `active` to the ID of the empty signature. All other states must already have
-/// this ID.
+/// Sets the signature ID of each state in `active` to the ID of the empty signature. For all other states,
+/// `signature_ids` must already contain the ID of the empty signature.
 fn forget(signature_ids: &mut Vec<u32>, active: &[u32])
     requires active { AreActive (length signature_ids.old.items) active.now }
     requires none { InactiveHaveNone active.now signature_ids.old.items }

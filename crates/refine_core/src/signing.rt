@@ -1,5 +1,5 @@
-//! The first part of a round of refinement, which computes the signatures of the active states (the states that the
-//! round processes). The second part of the round is the split.
+//! The first part of a round of refinement, which finds the active states (the states that the round processes) and
+//! computes their signatures. The second part of the round is the split.
 ghost use Rattle.std.specs.Prelude.{◌≡◌, ◌<◌, List, ℕ, Option, length, IfOk};
 ghost use Rattle.theory.specs.declared.relation.Relation.{Relation};
 ghost use Rattle.theory.specs.declared.relation.Relation.TheVariants.{Branching as branching};
@@ -20,25 +20,25 @@ use std::alloc::Global;
 use theory::Relation;
 
 /// A relation (strong or branching bisimilarity) for which rounds can compute signatures. The constant `relation` is
-/// the name of this relation in the definitions of the crate `theory`.
+/// this relation as a value that contracts can mention.
 pub trait Signing {
     ghost relation: { Relation };
 
-    /// Returns the relation as a value of the program.
+    /// Returns this relation as a value that the program can use when it runs.
     fn signed_relation() -> Relation
         ensures { result ≡ relation };
 
-    /// For branching bisimilarity, discards all signatures, including those that are cached from round to round. For
-    /// strong bisimilarity, does nothing, because no strong signature is cached.
+    /// For branching bisimilarity, discards all signatures, including the signatures that are cached from round to
+    /// round. For strong bisimilarity, does nothing, because strong signatures are not cached.
     fn discard_cached(round: SignedBlocks) -> Result<SignedBlocks, Memory>
         ensures same { IfOk result (λ r. (r.blocks ≡ round.blocks) × (r.index ≡ round.index)
             × (r.visited ≡ round.visited)) }
         ensures discarded { IfOk result (λ r. relation ≡ branching
             → HasNoSignatures r.blocks.block_ids r.signatures r.cached) };
 
-    /// Computes the signature of each active state (each state that the round processes). A visit is a counted read of
-    /// a transition. If a transition was already visited in this round, the method reads it again without counting the
-    /// read.
+    /// Computes the signature of each active state (each state that the round processes). A visit is a read of a
+    /// transition that the meter counts. If a transition was already visited in this round, the method may read the
+    /// transition again, but the meter does not count this read.
     fn sign<M: Meter>(l: &Lts<M>, round: SignedBlocks, m: &mut M) -> Result<SignedBlocks, Memory>
         requires states { length round.blocks.block_ids ≡ l.now.states }
         requires ready { (old : Option (List ℕ)) × IsReadyToSign relation l.now old round }
@@ -53,10 +53,10 @@ pub trait Signing {
             (length (remaining_of round.visited l.now.places)) };
 }
 
-/// Computes the signature of each state with respect to the given blocks, as if no round had run. All states must be
-/// active (processed by the round), and all blocks must count as new (`first_new` is 0). Returns the interned
-/// signatures and, for each state, the ID of its signature. The number of visits (counted reads of transitions) equals
-/// the number of transitions.
+/// Computes the signature of each state with respect to the blocks in `blocks`, as if no round had run before. All
+/// states must be active (processed by the round), and all blocks must count as new (`first_new` is 0). Returns the
+/// interned signatures and, for each state, the ID of its signature. If the call succeeds, the number of visits (reads
+/// of transitions that the meter counts) equals the number of transitions.
 pub fn sign_all<S: Signing, M: Meter>(
     alloc: Global,
     l: &Lts<M>,
@@ -84,9 +84,10 @@ pub fn sign_all<S: Signing, M: Meter>(
     Ok(signed.into_signatures())
 }
 
-/// Computes the signatures of the active states, which are the states that the round processes. Then makes further
-/// visits (counted reads of transitions) and ignores their results, until the number of visits in this round equals the
-/// number of transitions. The meter had counted `before` visits when the round began.
+/// Computes the signatures of the active states, which are the states that the round processes. A visit is a read of a
+/// transition that the meter counts. After the signatures have been computed, the function makes further visits and
+/// ignores their results, until the number of visits in this round equals the number of transitions. The argument
+/// `before` is the number of visits that the meter had counted when the round began.
 pub(crate) fn sign_and_visit_rest<S: Signing, M: Meter>(
     l: &Lts<M>,
     round: SignedBlocks,
@@ -113,10 +114,13 @@ pub(crate) fn sign_and_visit_rest<S: Signing, M: Meter>(
     Ok(signed)
 }
 
-/// Begins a round, and finds the active states (the states that the round processes). If there is no predecessor index,
-/// the function discards the cached signatures, and then builds the index if enough late rounds were made
-/// (`SignedBlocks::begin_index`). If too many signatures are stored, the function discards all signatures and activates
-/// all states (`SignedBlocks::activate_all`). Otherwise, it searches the index for the active states.
+/// Begins a round: empties the set of visited transitions, and finds the active states (the states that the round
+/// processes). If too many signatures are stored, the function discards all signatures, and activates all states that
+/// have an outgoing transition and are not in a singleton block (`SignedBlocks::activate_all`). Otherwise, if there is
+/// a predecessor index, the function searches this index for the active states (`SignedBlocks::find_active`). If there
+/// is no predecessor index, the active states stay the same. In this case, the function calls
+/// `Signing::discard_cached`, and builds the index if the late rounds have done enough work
+/// (`SignedBlocks::begin_index`).
 pub(crate) fn begin_round<S: Signing, M: Meter>(
     l: &Lts<M>,
     round: SignedBlocks,

@@ -1,5 +1,5 @@
-//! Rounds of refinement for strong bisimilarity. The signature of a state has the pair (label, target block) of each of
-//! its transitions.
+//! Rounds of refinement for strong bisimilarity. The signature of a state is the set of the pairs (label, target block)
+//! of its transitions.
 ghost use Rattle.std.specs.Prelude.{◌≡◌, ◌↔◌, ℕ, ◌+◌, ◌++◌, ◌∷◌, ◌<◌, [], length, map, slice_index, IsTrue, IfOk};
 ghost use Rattle.std.specs.Prelude.{OnOk};
 ghost use Rattle.std.specs.Vec.{vec_len, vec_capacity};
@@ -58,8 +58,8 @@ impl Signing for Strong {
 }
 
 /// Computes the signatures of the states in `active` (the states that the round processes), interns these signatures in
-/// `signatures`, and stores their IDs in `signature_ids`. A block is new if the last split has made it. A state that
-/// has no transition to a new block gets the ID of the empty signature instead.
+/// `signatures`, and stores their IDs in `signature_ids`. A block is new if the last split has made it. If a state has
+/// no transition to a new block, the function stores the ID of the empty signature for this state instead.
 fn sign_active<M: Meter>(
     under: &NewBlocks<M>,
     visited: &Visited,
@@ -90,8 +90,9 @@ fn sign_active<M: Meter>(
     Ok(())
 }
 
-/// The input of the functions that read the row of a state, which is the list of its transitions. The input consists of
-/// the system, the block ID of each state, and the ID of the first new block (`first_new`).
+/// The input of the functions that read the row of a state (the list of its outgoing transitions). The input consists
+/// of the system, the block ID of each state, and `first_new`. A block is new if the last split has made it, which
+/// means that its ID is at least `first_new`.
 #[derive(Drop)]
 pub struct NewBlocks<'a, M: Meter> {
     pub l: &'a Lts<M>,
@@ -131,9 +132,10 @@ fn intern_signature<M: Meter>(
 }
 
 /// Stores the pairs (label, target block) of the transitions of `s` in `pairs`, and returns whether at least one of
-/// these pairs has a new block, which is a block that the last split has made. The function `read` does the same, but
-/// counts each read of a transition as a visit. If a transition was already visited in this round, this function reads
-/// the transition without counting the read.
+/// these pairs contains a new block, which is a block that the last split has made. A visit is a read of a transition
+/// that the meter counts. If a transition of `s` was already visited in this round, `read_unvisited` reads the
+/// transition, but the meter does not count this read. This is the only difference from the function `read`, for which
+/// the meter counts every read.
 #[inline(always)]
 fn read_unvisited<M: Meter>(
     under: &NewBlocks<M>,
@@ -177,7 +179,7 @@ fn read_unvisited<M: Meter>(
 }
 
 /// Stores the pairs (label, target block) of the transitions of `s` in `pairs`, in the order of these transitions.
-/// Returns whether at least one of these pairs has a new block, which is a block that the last split has made.
+/// Returns whether at least one of these pairs contains a new block, which is a block that the last split has made.
 #[inline(always)]
 pub fn read<M: Meter>(
     under: &NewBlocks<M>,
@@ -208,9 +210,9 @@ pub fn read<M: Meter>(
         affected = collect(under.block_ids, under.first_new, only, affected, pairs);
         k += 1;
     }
-    // A visit is a counted read of a transition. The loop makes two visits before it stores two pairs. After a store,
-    // the next visit has to wait until the visit counter has been loaded from memory again. With two visits for two
-    // stores, the loop waits half as often.
+    // A visit is a read of a transition that the meter counts. The loop makes two visits, and then stores two pairs.
+    // After a store, the next visit has to wait until the visit counter has been loaded from memory again. Because the
+    // loop makes two visits before each two stores, it waits half as often as with one visit before each store.
     while k < end {
         let first = under.l.edge(k, m);
         let second = under.l.edge(k + 1, m);
@@ -222,8 +224,8 @@ pub fn read<M: Meter>(
 }
 
 /// Appends the pair (label, target block) of a transition to `pairs`. A block is new if the last split has made it. The
-/// argument `affected` says whether a pair with a new block is in `pairs` before the call. The function returns whether
-/// such a pair is in `pairs` after the call.
+/// argument `affected` must be true if and only if `pairs` contains a pair with a new block before the call. The
+/// function returns whether `pairs` contains a pair with a new block after the call.
 #[inline(always)]
 fn collect(
     p: &[u32],

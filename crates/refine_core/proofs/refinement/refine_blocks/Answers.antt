@@ -56,7 +56,7 @@ returns-in_err-next-clause-err g c =
     on_err_from c.from_residual-in_err-next.result (made.rounds + r, most, omega (arith, made.costs, one, visits))
 
 -- The following lemmas assume that a round was made. Before this round, some states in singleton blocks (blocks with
--- one state) may have been dropped from the states that the round processes.
+-- one state) may have been dropped from the active states, which are the states that the round processes.
 module _ (g : Over) (c : After-count-more g) where
   abbrev old : RoundBlocks
   old = c.loop-before.round.blocks
@@ -77,8 +77,8 @@ module _ (g : Over) (c : After-count-more g) where
   costs = let made = c.loop-before.invariant.made in
       omega (arith, suc-mul made.rounds (length c.args.l.now.places), made.costs, c.in_ok-next.ensures.costs)
 
-  -- Suppose that the round has split no block. Then `Turns` holds for the number of rounds: this round is the first
-  -- round that has split no block.
+  -- Each earlier round has split a block. Suppose that this round has split no block. Then this round is the first
+  -- round that has split no block, so `Turns` holds for the number of all rounds, including this round.
   turns : c.count-more.result ≡ c.count-count.result →
       Turns g.S.Signing.relation (system_of c.args.l.now) (suc c.loop-before.invariant.made.rounds)
   turns e = c.refinement_goes_on.ensures.done _ (system_of c.args.l.now) _ (slice_index old.block_ids) _

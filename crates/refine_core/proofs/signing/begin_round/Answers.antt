@@ -24,7 +24,7 @@ begin_index-requires-clause-none g c =
     c.in_ok-round.ensures.same.2 ∙ ap (λ r. r.visited) (c.round.view_is ∙ c.clear_visited-round.ensures)
 
 -- Suppose that there was no predecessor index, and that the call of `begin_index`, which may build the index, has
--- succeeded. Then the round is ready for computing signatures (`IsBegun`).
+-- succeeded. Then the data of the round is ready for computing signatures (`IsBegun`).
 pub returns-in_default-clause-begun : goal.returns-in_default-clause-begun
 returns-in_default-clause-begun g c = let l = c.args.l.now in
     let is = c.round.view_is ∙ c.clear_visited-round.ensures in
@@ -41,8 +41,8 @@ find_active-requires-clause-index g c =
     let some = ap (λ r. r.index) (sym is) ∙ sym c.take.ensures.value ∙ c.in-Some.is in
     rw (c.signed_relation-relation.ensures, ap (λ r. r.blocks.block_ids) is) (rw some at c.requires.ready_for_round.index)
 
--- Suppose that the call of `find_active`, which searches the predecessor index, has succeeded. Then the round is ready
--- for computing signatures (`IsBegun`).
+-- Suppose that there was a predecessor index, and that the call of `find_active`, which searches the index, has
+-- succeeded. Then the data of the round is ready for computing signatures (`IsBegun`).
 pub returns-clause-begun : goal.returns-clause-begun
 returns-clause-begun g c = let rel = g.S.Signing.relation in let l = c.args.l.now in
     let is = c.round.view_is ∙ c.clear_visited-round.ensures in

@@ -6,8 +6,8 @@ use Rattle.refine_core.proofs.signing.sign_all.Given.{Over}
 use Rattle.refine_core.proofs.signing.sign_all.Goals as goal
 use Rattle.refine_core.proofs.signing.sign_all.Goals.{In_ok-round}
 
--- These lemmas are about the data of the round before the signatures are computed. They show that the data is ready for
--- computing signatures as if no round had run (`IsReadyToSign`).
+-- The following lemmas are about the data of the round before the signatures are computed. They show that this data is
+-- ready for computing signatures, as if no round had run before (`IsReadyToSign`).
 module _ (g : Over) (c : In_ok-round g) where
   is : c.in_ok-round.round.blocks ≡ c.args.blocks
   is = c.in_ok-round.ensures.same.0 ∙ c.in_ok-new.ensures.blocks

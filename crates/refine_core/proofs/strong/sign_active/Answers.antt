@@ -9,15 +9,16 @@ use Rattle.refine_core.proofs.strong.sign_active.Given.{Over}
 use Rattle.refine_core.proofs.strong.sign_active.Goals.{In-loop-i}
 
 -- The following lemmas are about one iteration of a loop that goes through the active states, which are the states that
--- the round processes. The iteration computes the signature of one active state, and reads its transitions. It visits
--- (reads and counts) only those that were not visited before.
+-- the round processes. The iteration reads the transitions of one active state, and computes the signature of this
+-- state. A visit is a read of a transition that the meter counts. The iteration visits only the transitions that were
+-- not visited before the loop.
 module _ (g : Over) (c : In-loop-i g) where
   more : c.loop-i.i < length c.args.active.now
   more = omega (arith, c.loop-i-test.true, c.loop-i.auto.i-end)
 
   -- The loop goes through the active states (the states that the round processes) in ascending order. The list `left`
-  -- has all transitions that were not yet visited when the loop began, in ascending order of their sources. In this
-  -- list, the transitions of the next active state come after all transitions that the loop has visited so far.
+  -- contains all transitions that were not visited before the loop, in ascending order of their sources. In this list,
+  -- the transitions of the next active state come after all transitions that the loop has visited so far.
   row : let left = remaining_of c.args.visited.now c.args.under.now.l.now.places in
       let s = slice_index c.args.active.now c.loop-i.i in (before c.loop-i.invariant.visits.0 left ≤ before s left)
       × (before (s + 1) left ≡ before s left + length (row_of s left)) × (before (s + 1) left ≤ length left)
@@ -55,9 +56,9 @@ returns-in_err-signature_ids-clause-cost g c =
 pub returns-clause-cost : goal.returns-clause-cost
 returns-clause-cost g c = search (rules, before-le, c.loop-i.invariant.visits)
 
--- For each active state (each state that the round processes), the list `signature_ids` has the ID of its split
--- signature (`IsStrongSplitSignature`). The split signature is empty if the signature of the state has not changed
--- since the last round, and otherwise it is the new signature.
+-- The split signature of a state is empty if the signature of the state has not changed since the last round, and
+-- otherwise it is the new signature. After the loop, the list `signature_ids` contains, for each active state (each
+-- state that the round processes), the ID of the split signature of this state (`IsStrongSplitSignature`).
 pub returns-clause-signed : goal.returns-clause-signed
 returns-clause-signed g c s (j, h, is) =
     rw is at (c.loop-i.invariant.put j (omega (arith, h, c.loop-i-test.false, c.loop-i.auto.i-end))).holds
