@@ -39,7 +39,8 @@ pub find_active-requires-clause-index : goal.find_active-requires-clause-index
 find_active-requires-clause-index g c =
     let is = c.round.view_is ∙ c.clear_visited-round.ensures in
     let some = ap (λ r. r.index) (sym is) ∙ sym c.take.ensures.value ∙ c.in-Some.is in
-    rw (c.signed_relation-relation.ensures, ap (λ r. r.blocks.block_ids) is) (rw some at c.requires.ready_for_round.index)
+    rw (c.signed_relation-relation.ensures, ap (λ r. r.blocks.block_ids) is)
+    (rw some at c.requires.ready_for_round.index)
 
 -- Suppose that there was a predecessor index, and that the call of `find_active`, which searches the index, has
 -- succeeded. Then the data of the round is ready for computing signatures (`IsBegun`).
