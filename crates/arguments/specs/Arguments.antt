@@ -1,4 +1,4 @@
--- This file defines how the command-line arguments are described to the parser `clap`. It also defines which job
+-- This file defines how the command-line arguments are described to the parser `clap`. This file also defines which job
 -- (subcommand with its options) follows from the values that `clap` finds for these arguments.
 use Rattle.std.specs.Prelude.{◌≡◌, ◌≢◌, ◌⊎◌, ⊤, Any, IsSome, List, [], ◌∷◌, Some, None, codes, true, false, option_map}
 use Rattle.std.specs.Prelude.{unwrap_or, string_bytes, Bool, Option}
@@ -14,8 +14,8 @@ use Rattle.arguments.specs.declared.arguments.Job.TheVariants.{Min, Cmp}
 use Rattle.arguments.specs.declared.arguments.WordFault.{WordFault}
 use Rattle.arguments.specs.declared.arguments.WordFault.TheVariants as fault
 
--- `relation_rule` describes the option `--relation WORD` to the parser `clap`. If the command line does not have this
--- option, its value is `strong`.
+-- `relation_rule` is the description of the option `--relation WORD` for the parser `clap`. If the command line does
+-- not contain this option, the value of the option is `strong`.
 abbrev pub relation_rule : Rule
 relation_rule = record (new_rule (codes "relation")) {
   long = Some (codes "relation");
@@ -23,38 +23,39 @@ relation_rule = record (new_rule (codes "relation")) {
   defaults = codes "strong" ∷ [];
 }
 
--- `hide_rule` describes the option `--hide FILE` to the parser `clap`.
+-- `hide_rule` is the description of the option `--hide FILE` for the parser `clap`.
 abbrev pub hide_rule : Rule
 hide_rule = record (new_rule (codes "hide")) { long = Some (codes "hide"); value_names = 1 }
 
--- `stats_rule` describes the flag `--stats` to the parser `clap`.
+-- `stats_rule` is the description of the flag `--stats` for the parser `clap`.
 abbrev pub stats_rule : Rule
 stats_rule = record (new_rule (codes "stats")) { long = Some (codes "stats"); action = Some SetTrue }
 
--- `file_rule id` describes an optional file argument with the name `id` to the parser `clap`.
+-- `file_rule id` is the description of an optional file argument with the name `id` for the parser `clap`.
 abbrev pub file_rule : Text → Rule
 file_rule id = record (new_rule id) { value_names = 1 }
 
--- `job_app name` describes the subcommand `name` (`min` or `cmp`) to the parser `clap`. The description has the parts
--- that both subcommands share: the name of the subcommand, and the options `--relation` and `--hide`.
+-- `job_app name` is the description of the subcommand `name` (`min` or `cmp`) for the parser `clap`. The description
+-- consists of the parts that both subcommands share: the name of the subcommand, and the options `--relation` and
+-- `--hide`.
 abbrev pub job_app : Text → App
 job_app name = with_rule (with_rule (new_app name) relation_rule) hide_rule
 
--- `min_app` describes the subcommand `min` and its arguments to the parser `clap`.
+-- `min_app` is the description of the subcommand `min` and its arguments for the parser `clap`.
 abbrev pub min_app : App
 min_app = with_rule (with_rule (job_app (codes "min")) stats_rule) (file_rule (codes "file"))
 
--- `needed_file_rule id` describes a mandatory file argument with the name `id` to the parser `clap`.
+-- `needed_file_rule id` is the description of a mandatory file argument with the name `id` for the parser `clap`.
 abbrev pub needed_file_rule : Text → Rule
 needed_file_rule id = record (file_rule id) { required = true }
 
--- `cmp_app` describes the subcommand `cmp` and its arguments to the parser `clap`.
+-- `cmp_app` is the description of the subcommand `cmp` and its arguments for the parser `clap`.
 abbrev pub cmp_app : App
 cmp_app =
     with_rule (with_rule (job_app (codes "cmp")) (needed_file_rule (codes "first"))) (needed_file_rule (codes "second"))
 
--- `program_app` describes the whole command line to the parser `clap`. The command line has an option that shows the
--- version, and a subcommand is mandatory.
+-- `program_app` is the description of the whole command line for the parser `clap`. The command line may contain an
+-- option that shows the version, and it must contain a subcommand.
 abbrev pub program_app : App
 program_app = with_subcommand (with_subcommand (record (new_app (codes "autbis")) {
   top = record (new_app (codes "autbis")).top { has_version = true; subcommand_required = true };
@@ -64,7 +65,8 @@ program_app = with_subcommand (with_subcommand (record (new_app (codes "autbis")
 abbrev pub AreTaken : List Text → Type 0
 AreTaken words = fault_of program_app words ≡ []
 
--- `relation_word relation` is the name of the relation on the command line, which is `strong` or `branching`.
+-- `relation_word relation` is the name of the relation `relation` on the command line, which is `strong` or
+-- `branching`.
 abbrev pub relation_word : Relation → Text
 relation_word Strong = codes "strong"
 relation_word Branching = codes "branching"
@@ -96,8 +98,8 @@ HasMatches name rows (Cmp relation hide first second) = (name ≡ codes "cmp")
     × (first_of (codes "second") rows ≡ Some (string_bytes second))
 
 -- `IsWhole name rows` holds if `clap` has found all mandatory arguments of the subcommand `name`. The subcommand `min`
--- has no mandatory argument, and `cmp` has two, which are the names of two files. The definition does not require that
--- the relation on the command line exists.
+-- has no mandatory argument. The subcommand `cmp` has two mandatory arguments, which are the names of two files. The
+-- definition does not require that the relation on the command line exists.
 abbrev pub IsWhole : Text → List Row → Type 0
 IsWhole name rows = (name ≡ codes "min")
     ⊎ ((name ≡ codes "cmp") × IsSome (first_of (codes "first") rows) × IsSome (first_of (codes "second") rows))
@@ -118,8 +120,9 @@ IsJobIn subcommand job = (name : Text) × (rows : List Row) × (subcommand ≡ S
 
 -- `IsFaultIn subcommand fault` states which errors are possible when a job (a subcommand with its options) is made from
 -- the subcommand that `clap` has found. There are three possible errors: the relation is unknown, the subcommand or a
--- mandatory argument is missing, or an allocation failed. The definition states a condition only for an unknown
--- relation.
+-- mandatory argument is missing, or an allocation failed. The error for an unknown relation must contain the name of
+-- the relation on the command line, and no relation may have this name. For the other two errors, the definition states
+-- no condition.
 abbrev pub IsFaultIn : Option (Text × List Row) → WordFault → Type 0
 IsFaultIn subcommand (fault.Relation named) = (name : Text) × (rows : List Row) × (subcommand ≡ Some (name, rows))
     × NamesNoRelation (relation_in rows) (fault.Relation named)
@@ -130,14 +133,14 @@ IsFaultIn subcommand _ = ⊤
 abbrev pub IsWholeIn : Option (Text × List Row) → Type 0
 IsWholeIn subcommand = (name : Text) × (rows : List Row) × (subcommand ≡ Some (name, rows)) × IsWhole name rows
 
--- `IsFaultOfAJob` holds for the errors that are possible even if `clap` has found all mandatory arguments of a
+-- `IsFaultOfAJob` holds for those errors that are possible even if `clap` has found all mandatory arguments of a
 -- subcommand. There are two such errors: the relation is unknown, or an allocation failed.
 abbrev pub IsFaultOfAJob : WordFault → Type 0
 IsFaultOfAJob (fault.Relation _) = ⊤
 IsFaultOfAJob fault.Memory = ⊤
 IsFaultOfAJob _ = ⊥
 
--- `IsHelp` holds for the two error kinds by which `clap` reports that the arguments ask for help or for the version.
+-- `IsHelp` holds for the two error kinds that `clap` reports if the arguments ask for help or for the version.
 abbrev pub IsHelp : ErrorKind → Type 0
 IsHelp kind = (kind ≡ DisplayHelp) ⊎ (kind ≡ DisplayVersion)
 

@@ -1,5 +1,5 @@
-//! Describes the command-line arguments to `clap`, and makes a job (the subcommand with its options) from the values
-//! that `clap` finds.
+//! Builds the description of the command-line arguments for the parser `clap`, and makes a job (the subcommand with its
+//! options) from the values that `clap` finds.
 ghost use Rattle.std.specs.Prelude.{◌≡◌, map, option_map, string_bytes, codes, IfOk, IfErr, Some, false};
 ghost use Rattle.clap.specs.Words.{app_of, first_of, found_of, rows_of, rule_of, subcommand_rows_of};
 ghost use Rattle.clap.specs.Values.{kind_of};
@@ -63,8 +63,8 @@ pub enum Job {
     Min {
         /// The relation modulo which the system is minimised.
         relation: Relation,
-        /// Whether the option `--stats` is given. This option writes a line with the size of the system, and with the
-        /// numbers of rounds and visits (reads of transitions) of the minimisation.
+        /// Whether the option `--stats` is given. With this option, the program writes a line with the size of the
+        /// system, and with the numbers of rounds and visits (reads of transitions) of the minimisation.
         stats: bool,
         hide: Option<String>,
         file: Option<String>,
@@ -82,9 +82,9 @@ pub enum Job {
 /// The reason why the command line does not lead to a job (a subcommand with its options).
 #[derive(Debug, Drop, PartialEq, Eq)]
 pub enum WordFault {
-    /// The command line is incorrect. The text is the error message.
+    /// The command line is incorrect. The string is the error message.
     Usage(String),
-    /// The command line names a relation that does not exist. The string is this name.
+    /// The command line names a relation that does not exist. The string is the name that the command line gives.
     Relation(String),
     /// The arguments ask for help or for the version. The string is the text to show.
     Help(String),
@@ -120,7 +120,7 @@ pub fn command(alloc: Global, words: Vec<String>) -> Result<Job, WordFault>
     }
 }
 
-/// Describes the whole command line to `clap`.
+/// Builds the description of the whole command line for `clap`.
 fn described<'a>(alloc: Global) -> Result<Command<'a>, AllocError>
     ensures { IfOk result (λ c. app_of c ≡ program_app) }
 {
@@ -134,7 +134,7 @@ fn described<'a>(alloc: Global) -> Result<Command<'a>, AllocError>
         .subcommand(described_cmp(alloc)?)
 }
 
-/// Describes the subcommand `min` and its arguments to `clap`.
+/// Builds the description of the subcommand `min` and its arguments for `clap`.
 fn described_min<'a>(alloc: Global) -> Result<Command<'a>, AllocError>
     ensures words { IfOk result (λ c. app_of c ≡ min_app) }
     ensures local { IfOk result (λ c. (out-Command c).has_globals ≡ false) }
@@ -144,7 +144,7 @@ fn described_min<'a>(alloc: Global) -> Result<Command<'a>, AllocError>
         .arg(file(alloc, "file", "The system; standard input if there is none"))
 }
 
-/// Describes the subcommand `cmp` and its arguments to `clap`.
+/// Builds the description of the subcommand `cmp` and its arguments for `clap`.
 fn described_cmp<'a>(alloc: Global) -> Result<Command<'a>, AllocError>
     ensures words { IfOk result (λ c. app_of c ≡ cmp_app) }
     ensures local { IfOk result (λ c. (out-Command c).has_globals ≡ false) }
@@ -154,8 +154,8 @@ fn described_cmp<'a>(alloc: Global) -> Result<Command<'a>, AllocError>
         .arg(needed_file(alloc, "second", "The second system"))
 }
 
-/// Describes a subcommand (`min` or `cmp`) to `clap`. The description has the parts that both subcommands share: the
-/// name and the summary of the subcommand, and the options `--relation` and `--hide`.
+/// Builds the description of a subcommand (`min` or `cmp`) for `clap`. The description consists of the parts that both
+/// subcommands share: the name and the summary of the subcommand, and the options `--relation` and `--hide`.
 fn described_job<'a>(
     alloc: Global,
     name: &'a str,
@@ -171,8 +171,8 @@ fn described_job<'a>(
         .arg(hide_option(alloc))
 }
 
-/// Describes the option `--relation WORD` to `clap`. The function `relation_of` checks later whether the value of this
-/// option is the name of a relation.
+/// Builds the description of the option `--relation WORD` for `clap`. Whether the value of this option is the name of a
+/// relation is checked later, by the function `relation_of`.
 fn relation_option<'a>(alloc: Global) -> Arg<'a>
     ensures rule { rule_of result ≡ relation_rule }
     ensures local { result.global ≡ false }
@@ -184,7 +184,7 @@ fn relation_option<'a>(alloc: Global) -> Arg<'a>
         .help("The bisimulation: strong or branching")
 }
 
-/// Describes the option `--hide FILE` to `clap`.
+/// Builds the description of the option `--hide FILE` for `clap`.
 fn hide_option<'a>(alloc: Global) -> Arg<'a>
     ensures rule { rule_of result ≡ hide_rule }
     ensures local { result.global ≡ false }
@@ -194,7 +194,7 @@ fn hide_option<'a>(alloc: Global) -> Arg<'a>
     )
 }
 
-/// Describes the flag `--stats` to `clap`.
+/// Builds the description of the flag `--stats` for `clap`.
 fn stats_flag<'a>(alloc: Global) -> Arg<'a>
     ensures rule { rule_of result ≡ stats_rule }
     ensures local { result.global ≡ false }
@@ -205,7 +205,7 @@ fn stats_flag<'a>(alloc: Global) -> Arg<'a>
         .help("Say on standard error how many rounds and visits were made")
 }
 
-/// Describes an optional file argument to `clap`.
+/// Builds the description of an optional file argument for `clap`.
 fn file<'a>(alloc: Global, id: &'a str, help: &'a str) -> Arg<'a>
     ensures rule { rule_of result ≡ file_rule id.now }
     ensures local { result.global ≡ false }
@@ -213,7 +213,7 @@ fn file<'a>(alloc: Global, id: &'a str, help: &'a str) -> Arg<'a>
     Arg::new(alloc, id).value_name("FILE").help(help)
 }
 
-/// Describes a mandatory file argument to `clap`.
+/// Builds the description of a mandatory file argument for `clap`.
 fn needed_file<'a>(alloc: Global, id: &'a str, help: &'a str) -> Arg<'a>
     ensures rule { rule_of result ≡ needed_file_rule id.now }
     ensures local { result.global ≡ false }
@@ -314,8 +314,8 @@ fn relation_of(alloc: Global, word: &str) -> Result<Relation, WordFault>
     Err(WordFault::Relation(String::from_str(alloc, word)?))
 }
 
-/// Converts an error that `clap` reports: a request for help or for the version, an incorrect command line, or a failed
-/// allocation.
+/// Converts an error that `clap` reports into a `WordFault`. The error is a request for help or for the version, an
+/// incorrect command line, or a failed allocation.
 fn fault_of(alloc: Global, error: &Error) -> WordFault
     ensures kind { IsFaultOfKind (kind_of error.now) result }
     ensures memory { kind_of error.now ≡ OutOfMemory → result ≡ Memory }

@@ -1,4 +1,4 @@
--- Lemmas about blanks in front of a token, and about the bytes that may follow a token.
+-- The lemmas in this file are about blanks in front of a token, and about the bytes that may follow a token.
 use Rattle.std.proofs.Common.{◌≡◌, ◌⊎◌, ℕ, Bool, true, false, List, [], ◌∷◌, ◌++◌, refl, sym, ap, ◌∙◌, append_assoc}
 use Rattle.std.proofs.Common.{arith}
 use Rattle.std.proofs.lemmas.Grind.{common_steps}

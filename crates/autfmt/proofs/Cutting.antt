@@ -45,12 +45,12 @@ same_cut (l ∷ ls) (l' ∷ ls') rest rest' lines lines' one one' e =
     same_cut ls ls' rest rest' (All-tail IsOneLine l ls lines) (All-tail IsOneLine l' ls' lines') one one' h in
     (cc, r)
 
--- There is at most one way to divide a text into lines with their line feeds and a rest without a line feed.
+-- A text can be divided in at most one way into lines with their line feeds and a rest without a line feed.
 pub Cuts-unique : (text : List ℕ) (e e' : List (List ℕ)) (r r' : List ℕ) →
     Cuts text e r → Cuts text e' r' → (e ≡ e') × (r ≡ r')
 Cuts-unique text e e' r r' c d = same_cut e e' r r' c.lines d.lines c.one d.one (sym c.whole ∙ d.whole)
 
--- A text has at most one list of lines.
+-- A text can be divided into lines in at most one way (`Lines`).
 pub Lines-unique : (text : List ℕ) (lines lines' : List (List ℕ)) → Lines text lines →
     Lines text lines' → lines ≡ lines'
 Lines-unique text lines lines' (e, r, c, is) (e', r', d, is') = let (p, q) = Cuts-unique text e e' r r' c d in cc
@@ -105,7 +105,7 @@ cut (b ∷ text) = step (cases_eq b 10) (cut text).0 (cut text).1 (cut text).2
     step (inr other) (l ∷ ls) r c =
         ((b ∷ l) ∷ ls, r, Cuts-joined (b ∷ []) text l ls r (All-cons IsNoFeed b [] other (All-nil IsNoFeed)) c)
 
--- Every text has a list of its lines.
+-- Every text can be divided into lines (`Lines`).
 pub lines_of : (text : List ℕ) → (lines : List (List ℕ)) × Lines text lines
 lines_of text = let c = cut text in (c.0 ++ last_line c.1, (c.0, c.1, c.2, refl))
 
@@ -126,7 +126,7 @@ Lines-one line one some = grind arith
 
 -- Suppose that a text is divided into lines with their line feeds and a rest without a line feed. If at least one byte
 -- is appended to the text, and no appended byte is a line feed, then the last line of the result consists of the rest
--- and the appended bytes. The lines before it stay the same.
+-- and the appended bytes. The lines before the last line stay the same.
 pub Lines-longer :
     (given : List ℕ) (ended : List (List ℕ)) (rest more : List ℕ) → Cuts given ended rest → IsOneLine more →
     1 ≤ length more → Lines (given ++ more) (ended ++ (rest ++ more) ∷ [])

@@ -1,5 +1,5 @@
 -- Every input denotes exactly one system, or has exactly one first error, which is the error that is reported. No input
--- does both.
+-- denotes a system and has a first error.
 use Rattle.std.proofs.Common.{◌≡◌, ◌⊎◌, ⊎_elim, ℕ, ◌+◌, ◌≤◌, List, [], ◌∷◌, ◌++◌, length, refl, sym, ◌∙◌, subst, inl}
 use Rattle.std.proofs.Common.{inr, arith, All, rules}
 use Rattle.std.specs.List.{AllZip}
@@ -38,8 +38,9 @@ among_spelled n (line ∷ lines) (e ∷ es) good =
     ((good.0.0, others.0), All-cons (IsAmong n) e es good.0.1 others.1)
 among_spelled n lines es good = absurd good
 
--- Suppose that an input begins with correct transitions, that the list `others` has the lines after them, and that
--- `fault` is the error that comes next (`NextFault`). Then reading stops before the lines in `others`.
+-- Suppose that the header of an input declares m transitions, that correct transitions follow the header, and that the
+-- list `others` contains the lines after these transitions. Suppose also that `fault` is the error that comes next
+-- (`NextFault`). Then at most m transitions come before the lines in `others`, and reading stops before these lines.
 next_stops : (m n found : ℕ) (others : List (List ℕ)) (fault : Fault) → NextFault m n found others fault →
     (found ≤ m) × Stops (SpellsAmong n) m found others
 next_stops m n found [] fault h = let less = h.0 in (omega arith, tt)
@@ -54,8 +55,8 @@ NextFault-unique m n found (line ∷ others) f g (inl a) (inr b) = let x = a.0 i
 NextFault-unique m n found (line ∷ others) f g (inr a) b = grind arith
 
 -- `FaultBehind m n lines es others fault` holds if the lines in the list `lines` denote the transitions es, and `fault`
--- is the error after these lines. Either `fault` is the error of the first line in the list `others`, or `fault` says
--- that transitions are missing.
+-- is the error after these lines, for a header that declares m transitions and n states. This error is either the error
+-- of the first line in the list `others`, or the error that transitions are missing.
 abbrev pub FaultBehind : ℕ → ℕ → List (List ℕ) → List Transition → List (List ℕ) → Fault → Type 0
 FaultBehind m n lines es others fault = AllZip (SpellsAmong n) lines es × NextFault m n (length es) others fault
 
@@ -69,12 +70,10 @@ behind_unique m n lines lines' others others' es es' f g e a b =
     (omega arith) (omega arith) p.0 q.0 p.1 q.1 in
     grind (arith, NextFault-unique)
 
--- `FaultOf bounds fault lines` holds if `fault` is the first error of an input that consists of the lines `lines`.
--- There are three cases:
---
--- - The input has no line.
--- - The header has the error.
--- - The header and a number of transitions are correct, and the error comes after them.
+-- `FaultOf bounds fault lines` holds if `fault` is the first error of an input that consists of the lines `lines`. If
+-- the input has no line, the error is that it has no header (`BadHeader`). If the header has an error, `fault` is this
+-- error. Otherwise, the header and some number of transitions are correct, and `fault` is the error that comes after
+-- them.
 abbrev FaultOf : Bounds → Fault → List (List ℕ) → Type 0
 FaultOf bounds fault [] = fault ≡ BadHeader
 FaultOf bounds fault (line ∷ all) =
@@ -156,7 +155,8 @@ pub Reads-from_lines :
     Reads bounds text (record { first = f; states = n; transitions = es })
 Reads-from_lines bounds text line lines f m n es l g good count = grind (arith, among_spelled, header, g.first)
 
--- It is decidable whether a line denotes a transition whose source and target are less than n.
+-- It is decidable whether a line denotes a transition whose source and target are less than the number n
+-- (`SpellsAmong`).
 decide_edge : (n : ℕ) (line : List ℕ) → ((e : Transition) × SpellsAmong n line e)
     ⊎ ((e : Transition) → ¬ SpellsAmong n line e)
 decide_edge n line =

@@ -22,7 +22,8 @@ without_fault P one not_both = (λ none. ⊎_elim (λ x. x) (λ bad. absurd (non
 
 module _ {X : Type 0} (Good : List ℕ → X → Type 0) (most : ℕ) where
   -- `Stops found lines` holds if reading stops after `found` correct lines, and `lines` are the lines that follow.
-  -- There are three reasons: there is no further line, no further line is allowed, or the next line is incorrect.
+  -- There are three possible reasons: there is no further line, no further line is allowed, or the next line is
+  -- incorrect.
   abbrev pub Stops : ℕ → List (List ℕ) → Type 0
   Stops found [] = Unit
   Stops found (line ∷ others) = found < most → (x : X) → ¬ Good line x
@@ -32,8 +33,9 @@ module _ {X : Type 0} (Good : List ℕ → X → Type 0) (most : ℕ) where
       front ≡ line ∷ lines ++ others → Stops found front → ⊥
   goes_on found front lines others line x less good e stops = grind arith
 
-  -- There is at most one way to divide a list of lines into two parts such that each line of the first part is correct,
-  -- and reading stops before the second part.
+  -- Suppose that a list of lines is divided into two parts, such that each line of the first part is correct and
+  -- allowed, and reading stops before the second part. Then there is no other way to divide the list into two such
+  -- parts.
   pub one_front : (found : ℕ) (lines lines' others others' : List (List ℕ)) (xs ys : List X) (i j : ℕ) →
       lines ++ others ≡ lines' ++ others' →
       AllZip Good lines xs → AllZip Good lines' ys → i ≡ found + length xs → j ≡ found + length ys →
@@ -88,7 +90,7 @@ module _ {X : Type 0} (Good : List ℕ → X → Type 0) (most : ℕ) where
       step rest (inl less) (inr bad) = stop (λ _. bad)
       step rest (inl less) (inl (x, good)) = more x good (rest less)
 
--- `HasLongLine text` holds if the text has a line of more than 8192 bytes (`LONGEST_LINE`), which is too long.
+-- `HasLongLine text` holds if the text contains a line of more than 8192 bytes (`LONGEST_LINE`), which is too long.
 abbrev pub HasLongLine : List ℕ → Type 0
 HasLongLine text = (front others : List (List ℕ)) × (line : List ℕ) × Lines text (front ++ line ∷ others)
     × (LONGEST_LINE < length line)
@@ -101,10 +103,12 @@ short_lines text lines l short (front, others, line, l', long) =
 short_last : (rest : List ℕ) → IsShort rest → All IsShort (last_line rest)
 short_last rest short = grind arith
 
--- Let `given` be the bytes that have been read so far, and suppose that they have no line that is too long. Suppose
--- also that the first error of the whole input is `LineTooLong k` if the bytes that follow make the last line too long.
--- Then the first error of the whole input still depends on the bytes that may follow. The reason is that `LineTooLong
--- k` is not the first error if no bytes follow.
+-- Suppose that each text has at most one first error (`First`), and that this error is `LineTooLong` only if the text
+-- contains a line that is too long. Let `given` be the bytes that have been read so far, and suppose that no line of
+-- `given` is too long. Suppose also that `LineTooLong k` is the first error of each text that consists of the complete
+-- lines of `given` and one further line that is too long. Then the first error of the whole input still depends on the
+-- bytes that may follow. If further bytes make the last line too long, the first error is `LineTooLong k`. If no bytes
+-- follow, there is no error or another first error.
 pub not_known :
     (First : List ℕ → Fault → Type 0) → ((text : List ℕ) (f g : Fault) → First text f → First text g → f ≡ g) →
     ((text : List ℕ) (k : ℕ) → First text (LineTooLong k) → HasLongLine text) →

@@ -1,4 +1,5 @@
--- Lemmas about the line splitter (`Cutter`), which puts a line together from several chunks of bytes.
+-- The lemmas in this file are about the line splitter (`Cutter`), which puts a line together from several chunks of
+-- bytes.
 use Rattle.std.proofs.Common.{rules, ◌≡◌, ℕ, ◌+◌, ◌-◌, ◌<◌, ◌≤◌, Bool, true, false, suc, List, ◌∷◌, ◌++◌, length, take}
 use Rattle.std.proofs.Common.{drop, Option, refl, ap, arith}
 use Rattle.std.proofs.lemmas.Grind.{common_steps}
@@ -17,8 +18,8 @@ use Rattle.autfmt.proofs.Cutting.{IsNoFeed}
 use Rattle.autfmt.specs.declared.cutter.TheConstants.{CHUNK}
 use Rattle.autfmt.specs.declared.line.TheConstants.{LONGEST_LINE}
 
--- Suppose that the buffer has a part of a line, and that the next bytes of the line fit into the buffer. Then the bytes
--- of the buffer, followed by the next bytes, are a part of the line too.
+-- Suppose that the buffer contains a part of a line, and that the next bytes of the line fit into the buffer. Then the
+-- bytes of the buffer, followed by the next bytes, are a part of the line too.
 pub IsPart-append : (buffer bytes : List ℕ) → IsPart buffer → IsOneLine bytes →
     length buffer + length bytes ≤ LONGEST_LINE → IsPart (buffer ++ bytes)
 IsPart-append buffer bytes part one fits = grind (arith, common_steps, All-append, length-append)
@@ -55,30 +56,31 @@ too_long a b c old bs buffer bytes front tail first e part second split one big 
     let longer = All-append IsNoFeed buffer front part.0 one in
     grind (arith, length-append)
 
--- Consider the range of a list from the index `from` to the index `to`. The first `at` elements of this range are the
--- range from `from` to `from + at`.
+-- Consider the elements of a list at the indices i with from <= i < to. The first `at` of these elements are the
+-- elements at the indices i with from <= i < from + at.
 slice_to : (chunk : List ℕ) (from to at : ℕ) → at ≤ to - from →
     slice_range chunk from (from + at) ≡ take at (slice_range chunk from to)
 slice_to chunk from to at below = grind (arith, take-take)
 
--- Consider the range of a list from the index `from` to the index `to`. The elements after the index `at` of this range
--- are the range from `from + at + 1` to `to`.
+-- Consider the elements of a list at the indices i with from <= i < to. If the first `at + 1` of these elements are
+-- dropped, the other elements are the elements at the indices i with from + at + 1 <= i < to.
 slice_behind : (chunk : List ℕ) (from to at : ℕ) → at < to - from → from ≤ to →
     drop (at + 1) (slice_range chunk from to) ≡ slice_range chunk (from + (at + 1)) to
 slice_behind chunk from to at below ordered =
     let e : to - from ≡ at + 1 + (to - (from + (at + 1))) = omega arith in
     rw (e, drop-take, drop-drop) refl
 
--- `cut_at` is the state of a line splitter after it has split off a line that ends within the chunk, which has the
--- bytes that were last read from the input. The line feed after this line has the index `at` among the bytes that were
--- not yet divided into lines.
+-- `cut_at` is the state of a line splitter after it has split off a line that ends within the chunk. The chunk stores
+-- the bytes that were last read from the input. Before this line was split off, the line feed after it was at the index
+-- `at` of the bytes that were not yet divided into lines.
 abbrev pub cut_at : List ℕ → ℕ → ℕ → ℕ → Bool → Cutting
 cut_at chunk from to at over =
     record { line = slice_range chunk from (from + at); ahead = slice_range chunk (from + (at + 1)) to; over = over }
 
--- Suppose that the chunk (the bytes that were last read from the input) contains bytes that are not yet divided into
--- lines, and that there is a line feed among these bytes. Then the bytes before the first such line feed are the next
--- line, and the bytes after it are not yet divided into lines.
+-- Suppose that the end of the input has not been reached, and that the chunk (the bytes that were last read from the
+-- input) contains bytes that are not yet divided into lines. Suppose also that there is a line feed among these bytes.
+-- Then the bytes before the first such line feed are the next line, and the bytes after it are not yet divided into
+-- lines.
 pub line_in_piece :
     (chunk : List ℕ) (from to at : ℕ) (over : Bool) → over ≡ false → at < length (slice_range chunk from to) →
     from ≤ to → to ≤ CHUNK → IsOneLine (take at (slice_range chunk from to)) →

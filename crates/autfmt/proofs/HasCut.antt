@@ -1,5 +1,5 @@
 -- `HasCut` says that the line splitter (`Cutter`) has divided the bytes that were read from the input into lines. This
--- file has one lemma about `HasCut` for each result that a call of the line splitter may have.
+-- file contains one lemma about `HasCut` for each result that a call of the line splitter may have.
 use Rattle.std.proofs.Common.{◌≡◌, ⊎_elim, ℕ, ◌<◌, ◌≤◌, true, false, List, [], ◌∷◌, ◌++◌, length, All, refl, sym, inl}
 use Rattle.std.proofs.Common.{inr, arith}
 use Rattle.std.proofs.lemmas.List.{append_assoc, append-nil, length-append}
@@ -23,8 +23,8 @@ pub behind_whole : (given ahead more : List ℕ) (lines : List (List ℕ)) → g
 behind_whole given ahead more lines e = rw (e, append_assoc) refl
 
 -- Suppose that the line splitter has divided the bytes `given` into lines, and that the bytes `more` of the input
--- follow. Suppose also that `more` is empty if the line splitter has recorded the end of the input. Then the first
--- lines of the whole input are the lines that the line splitter has returned.
+-- follow. Suppose also that `more` is empty if the line splitter has recorded the end of the input. Then the whole
+-- input begins with the lines that the line splitter has returned.
 pub HasCut-lines : (given more : List ℕ) (lines : List (List ℕ)) (at : Cutting) → HasCut given lines at →
     (at.over ≡ true → more ≡ []) → (others : List (List ℕ)) × Lines (given ++ more) (lines ++ others)
 HasCut-lines given more lines at (inl (open_at, e, one)) end =
@@ -49,8 +49,9 @@ module _ (given got : List ℕ) (lines : List (List ℕ)) (old : Cutting) (cut :
   whole : (more : List ℕ) → with_line_feeds lines ++ (old.ahead ++ more) ≡ given ++ more
   whole more = behind_whole given old.ahead more lines parts.0
 
-  -- If the line splitter splits off the next line, then it has divided all bytes that were read so far into the
-  -- previous lines and this line (`HasCut`).
+  -- Suppose that the line splitter has divided the bytes `given` into the lines `lines`, reads the bytes `got`, and
+  -- then splits off the next line. Then `HasCut` holds for all bytes that were read (`given ++ got`), and for the lines
+  -- `lines`, followed by this line.
   pub HasCut-line : (now : Cutting) → CutsLine (old.ahead ++ got) now →
       HasCut (given ++ got) (lines ++ now.line ∷ []) now
   HasCut-line now cuts =
@@ -68,13 +69,15 @@ module _ (given got : List ℕ) (lines : List (List ℕ)) (old : Cutting) (cut :
       ))
       cuts.behind
 
-  -- Suppose that neither the bytes `got` nor the bytes before them that are not yet divided into lines contain a line
-  -- feed. Then these bytes together are the bytes after the last line feed of the input that was read so far.
+  -- Suppose that the line splitter has divided the bytes `given` into the lines `lines`, and then reads the bytes
+  -- `got`. Consider the bytes of `given` that are not yet divided into lines, followed by the bytes `got`. If there is
+  -- no line feed among these bytes, then `given ++ got` consists of the lines `lines`, each followed by a line feed,
+  -- and of these bytes (`Cuts`).
   pub HasCut-part : IsOneLine (old.ahead ++ got) → Cuts (given ++ got) lines (old.ahead ++ got)
   HasCut-part part = record { whole = sym (whole got); lines = parts.1; one = part }
 
-  -- The lines of the whole input are the lines that the line splitter has returned, followed by the lines of the bytes
-  -- that were not yet divided into lines, the bytes `got` and the bytes `more` that follow.
+  -- Consider the bytes that were not yet divided into lines, followed by the bytes `got` and by the bytes `more`. The
+  -- lines of the whole input are the lines that the line splitter has returned, followed by the lines of these bytes.
   lines_behind :
       (more bytes : List ℕ) (others : List (List ℕ)) → bytes ≡ old.ahead ++ got ++ more → Lines bytes others →
       Lines (given ++ got ++ more) (lines ++ others)
@@ -82,8 +85,8 @@ module _ (given got : List ℕ) (lines : List (List ℕ)) (old : Cutting) (cut :
       rw (append_assoc, ← whole (got ++ more), ← append_assoc old.ahead got more, ← same)
       (Lines-behind lines bytes others parts.1 l)
 
-  -- Suppose that the next line is too long. Then the whole input has the lines that the line splitter has returned,
-  -- followed by a line that is too long. This holds for all bytes `more` that may follow.
+  -- Suppose that the next line is too long. Then, whatever bytes `more` follow, the whole input begins with the lines
+  -- that the line splitter has returned, and the line after these lines is too long.
   pub HasCut-too_long : (more : List ℕ) → BeginsTooLong (old.ahead ++ got) →
       (line : List ℕ) × (others : List (List ℕ)) × (LONGEST_LINE < length line) × Lines (given ++ got ++ more)
       (lines ++ line ∷ others)

@@ -1,5 +1,5 @@
--- Every text is a hide list (a file with one label to hide on each line) in exactly one way, or has exactly one first
--- error, which is the error that is reported. No text does both.
+-- Every text can be read as a hide list (a file with one label to hide on each line) in exactly one way, or has exactly
+-- one first error, which is the error that is reported. No text can be read as a hide list and has a first error.
 use Rattle.std.proofs.Common.{◌≡◌, ◌⊎◌, ⊎_elim, ℕ, cond, ltb, Option, Some, None, ◌+◌, ◌<◌, ◌≤◌, List, [], ◌∷◌, ◌++◌}
 use Rattle.std.proofs.Common.{length, refl, sym, ◌∙◌, subst, inl, inr, arith, rules}
 use Rattle.std.specs.List.{AllZip}
@@ -22,14 +22,14 @@ use Rattle.autfmt.proofs.Decisions.{one_hide_line, decide_hide_line, unread}
 use Rattle.autfmt.specs.declared.line.TheConstants.{LONGEST_LINE}
 use Rattle.autfmt.specs.declared.limits.TheConstants.{MOST_LINES}
 
--- `GoodHide k line` holds if line k of a hide list (a file with one label to hide on each line) is correct. First, k
--- must be at most the number of lines that are allowed. Second, the line must be a label, with any blanks around it,
--- and must have at most 8192 bytes.
+-- `GoodHide k line` holds if line k of a hide list (a file with one label to hide on each line) is correct. This means
+-- that both of the following conditions hold. First, k is at most the number of lines that are allowed. Second, the
+-- line consists of a label, with any blanks around it, and has at most 8192 bytes.
 abbrev pub GoodHide : ℕ → List ℕ → Type 0
 GoodHide k line = (k ≤ MOST_LINES) × (a : List ℕ) × Hides line a
 
--- `hide_fault k line` is the error of line k of a hide list (a file with one label to hide on each line). It is `None`
--- if the line has no error.
+-- `hide_fault k line` is the error of line k of a hide list (a file with one label to hide on each line). The result is
+-- `None` if the line has no error.
 abbrev hide_fault : ℕ → List ℕ → Option Fault
 hide_fault k line =
     cond (ltb MOST_LINES k) (Some TooManyHidden)

@@ -1,5 +1,5 @@
--- Lemmas about the steps in which a hide list (the labels to hide, one on each line) is read. The lemmas describe the
--- state of the reader after each step, and justify each error that the reader returns.
+-- The lemmas in this file are about the steps in which a hide list (the labels to hide, one on each line) is read. The
+-- lemmas describe the state of the reader after each step, and justify each error that the reader returns.
 use Rattle.std.proofs.Common.{◌≡◌, ◌⊎◌, ◌↔◌, ⊎_elim, ℕ, ◌+◌, ◌<◌, ◌≤◌, true, List, [], ◌∷◌, ◌++◌, length, Option, Some}
 use Rattle.std.proofs.Common.{Contains, refl, sym, inl, inr, arith}
 use Rattle.std.proofs.lemmas.Slice.Zip.{AllZip-long, all_zipped_more}
@@ -57,8 +57,8 @@ module _ {given : List ℕ} {old : Cutting} {H hidden : List (List ℕ)} (got : 
   as_many : length H ≡ length so_far.lines
   as_many = AllZip-long Hides so_far.lines H so_far.named
 
-  -- Suppose that no more lines were read than are allowed, and that all bytes that were read are divided into lines.
-  -- Then these bytes are a hide list with the labels that were read.
+  -- Suppose that a hide list may have as many lines as were read, and that all bytes that were read have been divided
+  -- into lines. Then these bytes are a hide list with the labels that were read.
   pub hide_ends : length H ≤ MOST_LINES → old.ahead ++ got ≡ [] → HidesAs (given ++ got) hidden
   hide_ends few none = (
     H,
@@ -68,8 +68,8 @@ module _ {given : List ℕ} {old : Cutting} {H hidden : List (List ℕ)} (got : 
 
   -- Suppose that the source (the object from which the hide list is read) fails before the next line has been read to
   -- its end. Then the reader may return `Device`, which is the error of a failed source. The contract allows this error
-  -- only if the first error of the hide list still depends on the bytes that may follow. It depends on them, because
-  -- the next line may still become too long, or because no further line is allowed and the hide list has no error if it
+  -- only if the first error of the hide list still depends on the bytes that may follow. The reason for this is that
+  -- the next line may still become too long, or that no further line is allowed and the hide list has no error if it
   -- ends here.
   pub hide_failed : (rest : Option (List ℕ)) (failures : ℕ) → length H ≤ MOST_LINES →
       (length H < MOST_LINES) ⊎ (length (old.ahead ++ got) ≡ 0) → failures ≡ 1 → (old.over ≡ true → ⊥) →
@@ -81,7 +81,7 @@ module _ {given : List ℕ} {old : Cutting} {H hidden : List (List ℕ)} (got : 
 
   -- Suppose that the source (the object from which the hide list is read) fails after the last line that is allowed.
   -- Then the reader may return `Device`, which is the error of a failed source. The contract allows this error only if
-  -- the first error of the hide list still depends on the bytes that may follow. It depends on them, because the hide
+  -- the first error of the hide list still depends on the bytes that may follow. The reason for this is that the hide
   -- list has no error if no further line follows.
   pub hide_end_failed :
       (rest : Option (List ℕ)) (failures : ℕ) → length H ≡ MOST_LINES → failures ≡ 1 → (old.over ≡ true → ⊥) →
@@ -100,9 +100,9 @@ module _ {given : List ℕ} {old : Cutting} {H hidden : List (List ℕ)} (got : 
     same = SameLabels-add hidden H a hidden' so_far.same added;
   }
 
-  -- Assume that the source (the object from which the hide list is read) has not failed. In this case, each error that
-  -- the reader returns must be the first error of the whole list. This is required only if the contract of the source
-  -- states which bytes it contains.
+  -- Assume that the source (the object from which the hide list is read) has not failed. If the contract of the source
+  -- states which bytes the source contains, each error that the reader returns must then be the first error of the
+  -- whole hide list.
   module _ (found : ℕ) (rest : Option (List ℕ)) (failures : ℕ) (count : length H ≡ found) (sound : failures ≡ 0) where
     refused_behind : (fault : Fault) → IsHideFault fault → found ≤ MOST_LINES →
         ((more : List ℕ) → rest ≡ Some more → (line : List ℕ) × (others : List (List ℕ))

@@ -1,5 +1,5 @@
--- The lemmas in this file are about hiding the labels of a hide list, which has the labels to hide. The result depends
--- only on which labels are in the hide list, and not on their order.
+-- The lemmas in this file are about hiding the labels of a hide list, which contains the labels to hide. The result
+-- depends only on which labels are in the hide list, and not on their order.
 use Rattle.std.proofs.Common.{◌≡◌, ◌↔◌, ℕ, zero, suc, ◌<◌, true, List, [], ◌∷◌, length, map, get_or, Contains, refl}
 use Rattle.std.proofs.Common.{sym, ap, ap₂, arith}
 use Rattle.std.specs.List.{list_any}
@@ -11,7 +11,7 @@ use Rattle.std.proofs.lemmas.List.Elements.{Contains-get_or}
 use Rattle.lts.specs.Labels.{IsLabelId}
 use Rattle.theory.specs.System.{System, Transition, internal, hidden_label, hidden_transition, Hide}
 
--- If the label a is at the index k of the hide list H, which has the labels to hide, then the search for a in H is
+-- If the label a is at the index k of the hide list H (a list of the labels to hide), then the search for a in H is
 -- successful.
 pub found_in : (H : List (List ℕ)) (a : List ℕ) (k : ℕ) → k < length H → get_or H k a ≡ a →
     list_any (bytes_eq a) H ≡ true
@@ -38,7 +38,7 @@ hidden_label-internal : (H : List (List ℕ)) → hidden_label H internal ≡ in
 hidden_label-internal H = grind arith
 
 -- Suppose that the labels of a hide list (a list of the labels to hide) are hidden twice in succession. Then the second
--- time changes no label.
+-- hiding changes no label.
 pub hidden_label-again : (H : List (List ℕ)) (a : List ℕ) → hidden_label H (hidden_label H a) ≡ hidden_label H a
 hidden_label-again H a = let i = hidden_label-internal H in grind (arith, i)
 

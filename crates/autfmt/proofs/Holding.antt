@@ -12,8 +12,8 @@ use Rattle.autfmt.specs.declared.held.Held.{Held}
 use Rattle.autfmt.specs.Held.{AddsTriple, AreShown, Holds}
 use Rattle.autfmt.proofs.Hiding.{hidden_label-again}
 
--- Suppose that triples of a source, a label ID and a target are stored. If labels are added to the label table, and the
--- old labels keep their IDs, then each triple still denotes the same transition.
+-- Suppose that triples of a source, a label ID and a target are stored. If labels are added to the label table, and all
+-- labels that were in the table before keep their IDs, then each triple still denotes the same transition.
 pub kept_transitions :
     (n : ℕ) (old now : List (List ℕ)) (es : List Triple) → KeepsLabels old now → All (IsTriple (length old) n) es →
     map (transition_of now) es ≡ map (transition_of old) es
@@ -69,8 +69,8 @@ Holds-add H n old now es e held among added =
       few_labels = omega (arith, ap length added.items, length_push old.transitions triple);
     }
 
--- If the stored triples denote transitions with the labels in H hidden, then hiding the labels in H again changes no
--- label in the label table.
+-- If the stored triples denote transitions with the labels in the list H hidden, then hiding the labels in H again
+-- changes no label in the label table.
 pub Holds-shown : (H : List (List ℕ)) (n : ℕ) (held : Held) (es : List Transition) → Holds H n held es →
     AreShown H held.labels
 Holds-shown H n held es h k below =

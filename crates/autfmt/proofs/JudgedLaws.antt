@@ -1,6 +1,6 @@
--- If an error is the first error of the input for all bytes that may follow, then the first error is known before the
--- whole input has been read. This file proves for which bytes the first error is known, and for which bytes it still
--- depends on the bytes that follow.
+-- The bytes at the beginning of an input may already show which error is the first error of the input, so that this
+-- error does not depend on the bytes that follow. This file proves for which bytes the first error is known in this
+-- way, and for which bytes the first error still depends on the bytes that follow.
 use Rattle.std.proofs.Common.{◌≡◌, ◌⊎◌, ⊎_elim, ℕ, ◌+◌, ◌<◌, ◌≤◌, List, [], ◌∷◌, ◌++◌, length, refl, subst, inl, inr}
 use Rattle.std.proofs.Common.{sym, arith, All, rules}
 use Rattle.std.specs.List.{AllZip}
@@ -35,8 +35,9 @@ long_line bounds text k (behind m n es (line ∷ others) b (inl (less, EdgeFault
 long_line bounds text k (behind m n es (line ∷ others) b (inl (less, EdgeFault.target e d spelled low high))) = cc
 long_line bounds text k (behind m n es (line ∷ others) b (inr (full, e))) = absurd cc
 
--- Suppose that the bytes that have been read so far contain no line feed, and are not too long for a line. Then the
--- first error of the whole input still depends on the bytes that may follow, because line 1 may still become too long.
+-- Suppose that there is no line feed among the bytes that have been read, and that these bytes are not too long for a
+-- line. Then the first error of the whole input still depends on the bytes that may follow, because line 1 may still
+-- become too long.
 pub no_judged_header : (bounds : Bounds) (given : List ℕ) (fault : Fault) → IsPart given →
     JudgedFault bounds given fault → ⊥
 no_judged_header bounds given fault part known =
@@ -86,7 +87,7 @@ no_judged_fault bounds given line lines rest f m n es fault c good edges few sho
 module _ (bounds : Bounds) (given more : List ℕ) where
   -- Suppose that an input consists of correct lines, a next line, and other lines. If further bytes are appended to the
   -- input, then the longer input begins with the same correct lines. The next line of the longer input begins with the
-  -- next line of the old input.
+  -- next line of the original input.
   goes_on_well : (m n : ℕ) (es : List Transition) (line : List ℕ) (others : List (List ℕ)) →
       BeginsWell bounds given m n es (line ∷ others) →
       (tail : List ℕ) × (others' : List (List ℕ)) × BeginsWell bounds (given ++ more) m n es ((line ++ tail) ∷ others')
@@ -126,7 +127,7 @@ module _ (bounds : Bounds) (given more : List ℕ) where
 
 -- Suppose that the bytes that have been read so far end with a line feed. Suppose also that an input that consists of
 -- exactly these bytes has an error, and that its first error is not `MissingEdges` (transitions are missing). Then this
--- error is the first error of the whole input for all bytes that may follow.
+-- error is the first error of the whole input, whatever bytes follow.
 pub ended_known : (bounds : Bounds) (given : List ℕ) (ended : List (List ℕ)) (fault : Fault) → Cuts given ended [] →
     FirstFault bounds given fault →
     (ended ≡ [] → ⊥) → ((found : ℕ) → fault ≡ MissingEdges found → ⊥) → JudgedFault bounds given fault

@@ -1,5 +1,5 @@
--- Lemmas about reading a label. If a label is read from bytes, then these bytes are a written form of the label
--- according to the grammar. Each written form that the grammar allows can be read.
+-- The lemmas in this file are about reading a label. If a label is read from bytes, then these bytes are a written form
+-- of the label according to the grammar. Each written form that the grammar allows can be read.
 use Rattle.std.proofs.Common.{◌≡◌, ℕ, true, List, [], ◌∷◌, ◌++◌, Some, refl, ap, inl, inr, append_assoc, arith}
 use Rattle.std.specs.Prelude.{◌==◌}
 use Rattle.std.proofs.lemmas.Bool.{cond_both, eqb-true}

@@ -19,8 +19,8 @@ use Rattle.autfmt.specs.Reading.{header_at, transition_at}
 use Rattle.autfmt.proofs.Decisions.{one_header, decide_header, decide_transition, unread}
 use Rattle.autfmt.specs.declared.line.TheConstants.{LONGEST_LINE}
 
--- Suppose that a header declares the first state f, m transitions and n states. `wrong_numbers bounds f m n` is the
--- error in these numbers, or `None` if `bounds` allows them.
+-- `wrong_numbers bounds f m n` is the error in the numbers of a header that declares the first state f, m transitions
+-- and n states. The result is `None` if these numbers are correct and within the limits `bounds`.
 abbrev pub wrong_numbers : Bounds → ℕ → ℕ → ℕ → Option Fault
 wrong_numbers bounds f m n =
     cond (eqb n 0) (Some NoStates)
@@ -37,7 +37,7 @@ pub good_numbers : (bounds : Bounds) (line : List ℕ) (f m n : ℕ) → GoodHea
     wrong_numbers bounds f m n ≡ None
 good_numbers bounds line f m n g = grind arith
 
--- `header_fault bounds line` is the error of line 1, or None if line 1 is a correct header.
+-- `header_fault bounds line` is the error of line 1, or `None` if line 1 is a correct header.
 abbrev header_fault : Bounds → List ℕ → Option Fault
 header_fault bounds line =
     cond (ltb LONGEST_LINE (length line)) (Some (LineTooLong 1))
@@ -74,9 +74,9 @@ pub GoodHeader-unique : (bounds : Bounds) (line : List ℕ) (f m n f' m' n' : �
     GoodHeader bounds line f' m' n' → (f ≡ f') × (m ≡ m') × (n ≡ n')
 GoodHeader-unique bounds line f m n f' m' n' g g' = one_header line f m n f' m' n' g.header g'.header
 
--- Suppose that a line is a correct header with the numbers f, m and n, and also a correct header with the numbers f',
--- m' and n'. If a property holds for m and n, then it holds for m' and n', because a header can be read in only one
--- way.
+-- Suppose that a line is a correct header with the numbers f, m and n, and that the same line is a correct header with
+-- the numbers f', m' and n'. If a property holds for m and n, then it holds for m' and n', because a header can be read
+-- in only one way.
 pub same_header :
     (bounds : Bounds) (line : List ℕ) (f m n f' m' n' : ℕ) (P : ℕ → ℕ → Type 0) → GoodHeader bounds line f m n →
     GoodHeader bounds line f' m' n' → P m n → P m' n'
@@ -108,19 +108,19 @@ header_judged bounds line = elim (cases_lt LONGEST_LINE (length line)) [
 ]
 
 -- `wrong_ends n k s t` is the error of the transition on line k if its source s or its target t is not less than the
--- number n of states. It is `None` if both s and t are less than n.
+-- number n of states. The result is `None` if both s and t are less than n.
 abbrev wrong_ends : ℕ → ℕ → ℕ → ℕ → Option Fault
 wrong_ends n k s t = cond (leb n s) (Some (SourceRange k)) (cond (leb n t) (Some (TargetRange k)) None)
 
--- `edge_fault n k line` is the error of line k, or None if the line is a transition of a system with n states.
+-- `edge_fault n k line` is the error of line k, or `None` if the line is a transition of a system with n states.
 abbrev edge_fault : ℕ → ℕ → List ℕ → Option Fault
 edge_fault n k line =
     cond (ltb LONGEST_LINE (length line)) (Some (LineTooLong k))
     (elim (transition_at line) [ None ↦ Some (BadEdge k) | Some x ↦ wrong_ends n k x.0 x.2 ])
 
 module _ (n k : ℕ) (line : List ℕ) where
-  -- Suppose that the line denotes a transition. Then the line has no error except for an error in the source or the
-  -- target of this transition (`wrong_ends`).
+  -- Suppose that the line denotes a transition and is not too long. Then only the source and the target of this
+  -- transition can be incorrect (`wrong_ends`).
   spelled_fault : (e : Transition) → SpellsTransition line e → edge_fault n k line ≡ wrong_ends n k e.source e.target
   spelled_fault e (s, h) =
       rw (le-ltb LONGEST_LINE (length line) s, transition_at-again line e.source e.label e.target h) refl

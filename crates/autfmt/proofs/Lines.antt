@@ -1,4 +1,5 @@
--- Lemmas about reading a line. A line can be read if and only if it has a form that the grammar allows.
+-- The lemmas in this file are about reading a line. A line can be read if and only if it has a form that the grammar
+-- allows.
 use Rattle.std.proofs.Common.{rules, ◌≡◌, ℕ, ◌+◌, ◌<◌, ◌%◌, true, false, cond, List, [], ◌∷◌, ◌++◌, Option, Some, None}
 use Rattle.std.proofs.Common.{refl, ap, ◌∙◌, arith}
 use Rattle.std.specs.Prelude.{codes, ◌==◌}

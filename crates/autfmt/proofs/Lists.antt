@@ -1,4 +1,5 @@
--- General lemmas about lists, about prefixes of lists, and about two lists that are related element by element.
+-- This file contains general lemmas about lists, about prefixes of lists, and about two lists that are related element
+-- by element.
 use Rattle.std.proofs.Common.{rules, ◌≡◌, ℕ, ◌+◌, ◌-◌, ◌≤◌, List, [], ◌∷◌, ◌++◌, All, length, take, drop, refl, sym}
 use Rattle.std.proofs.Common.{◌∙◌, ap, ap₂, arith}
 use Rattle.std.proofs.lemmas.List.{append_assoc, take-append-drop, length-drop, take-take, length-take-le}
@@ -6,8 +7,8 @@ use Rattle.std.specs.List.{AllZip}
 use Rattle.std.proofs.lemmas.List.Elements.{All-nil, All-cons, All-head, All-tail}
 use Rattle.std.proofs.Math.Seq.{take-length, take-append-add}
 
--- If the first n elements of the list xs are dropped, then at most `length xs - n` elements remain. So taking `length
--- xs - n` elements of the remaining list takes all of them.
+-- If the first n elements of the list xs are dropped, then `length xs - n` elements remain. So taking `length xs - n`
+-- elements of the remaining list takes all of them.
 pub rest_of : {A : Type 0} → (n : ℕ) (xs : List A) → take (length xs - n) (drop n xs) ≡ drop n xs
 rest_of n xs = ap (λ k. take k (drop n xs)) (sym (length-drop n xs)) ∙ take-length (drop n xs)
 
@@ -17,8 +18,8 @@ pub front_more : {A : Type 0} → (front rest all : List A) (n : ℕ) → all �
     all ≡ front ++ take n rest ++ take (length rest - n) (drop n rest)
 front_more front rest all n is = grind (arith, take-append-drop, append_assoc, rest_of)
 
--- Suppose that the list `run` was written into a list from the index `at` on. Then the elements from the index `at` on
--- begin with the first n elements of `run`.
+-- Suppose that the list `run` was written into a list from the index `at` on. Then the elements of the new list from
+-- the index `at` on begin with the first n elements of `run`.
 pub begins_with : {A : Type 0} → (at n : ℕ) (run old new : List A) → at ≤ length old → n ≤ length run →
     take (at + length run) new ≡ take at old ++ run → take (at + n) new ≡ take at old ++ take n run
 begins_with at n run old new room short is =
@@ -26,16 +27,16 @@ begins_with at n run old new room short is =
     let some = take-take (at + n) (at + length run) new (omega arith) in
     cc (take-append-add (take at old) run n)
 
--- Suppose that R x y implies P x, and that two lists are related element by element by R. Then each element of the
--- first list has the property P.
+-- Suppose that an element has the property P if the relation R relates it to some element. Suppose also that R relates
+-- two lists element by element. Then each element of the first list has the property P.
 pub AllZip-firsts : {A B : Type 0} (R : A → B → Type 0) (P : A → Type 0) → ((x : A) (y : B) → R x y → P x) →
     (xs : List A) (ys : List B) → AllZip R xs ys → All P xs
 AllZip-firsts R P each [] ys zipped = All-nil P
 AllZip-firsts R P each (a ∷ xs) [] zipped = absurd zipped
 AllZip-firsts R P each (a ∷ xs) (b ∷ ys) zipped = search (rules, All-cons, (AllZip-firsts R P each xs ys zipped.1))
 
--- Suppose that R relates each element to at most one element. Then each list is related to at most one list, element by
--- element.
+-- Suppose that the relation R relates each element to at most one element. Then R relates each list, element by
+-- element, to at most one list.
 pub AllZip-unique :
     {A B : Type 0} (R : A → B → Type 0) → ((x : A) (y z : B) → R x y → R x z → y ≡ z) → (xs : List A) (ys zs : List B) →
     AllZip R xs ys → AllZip R xs zs → ys ≡ zs

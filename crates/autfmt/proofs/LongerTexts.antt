@@ -1,4 +1,5 @@
--- Lemmas about appending bytes to a text. The lines of the text remain, and its last line may become longer.
+-- The lemmas in this file are about appending bytes to a text. The lines of the text remain, and its last line may
+-- become longer.
 use Rattle.std.proofs.Common.{◌≡◌, ℕ, List, [], ◌∷◌, ◌++◌, sym, arith}
 use Rattle.std.proofs.lemmas.List.{append_assoc, append-nil}
 use Rattle.autfmt.specs.Texts.{Cuts, Lines}
@@ -14,8 +15,8 @@ ended_go_on given more ended lines c l =
     rw (same, c.whole, append-nil (with_line_feeds ended)) (Lines-behind ended more _ c.lines (lines_of more).1)
 
 -- Suppose that bytes are appended to the last line of a list of lines, and that further lines are then appended to the
--- list. Then each line of the old list is a prefix of the line at the same index of the new list. The lines before it
--- are the same in both lists.
+-- list. Then each line of the original list is a prefix of the line at the same index of the resulting list. All lines
+-- before this index are the same in both lists.
 line_stays :
     (front ended others more : List (List ℕ)) (line rest tail : List ℕ) → front ++ line ∷ others ≡ ended ++ rest ∷ [] →
     (t : List ℕ) × (os : List (List ℕ)) × (ended ++ (rest ++ tail) ∷ more ≡ front ++ (line ++ t) ∷ os)

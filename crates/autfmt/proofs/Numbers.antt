@@ -1,5 +1,5 @@
--- Lemmas about reading a number. The bytes that are read are the decimal digits of the number that is returned. Each
--- number with at most ten decimal digits can be read.
+-- The lemmas in this file are about reading a number. The bytes that are read are the decimal digits of the number that
+-- is returned. Each number with at most ten decimal digits can be read.
 use Rattle.std.proofs.Common.{◌≡◌, ℕ, ◌+◌, ◌-◌, ◌*◌, ◌/◌, ◌%◌, ◌^◌, ◌<◌, ◌≤◌, true, false, cond, List, [], ◌∷◌, ◌++◌}
 use Rattle.std.proofs.Common.{Option, Some, None, refl, sym, ap, ◌∙◌, append_assoc, arith, rules}
 use Rattle.std.specs.Prelude.{decimal, nat_lt}
@@ -32,7 +32,7 @@ decimal-more v d positive small digit = grind (arith, decimal_step)
 
 -- `Took v bytes n rest` holds if a number was read from the list `bytes` after the digits of v. The decimal digits of
 -- the number n are the digits of v, followed by the digits that were read from `bytes`, and n is less than 10 ^ 10. The
--- list `rest` has the bytes after these digits.
+-- list `rest` contains the bytes after these digits.
 record Took (v : ℕ) (bytes : List ℕ) (n : ℕ) (rest : List ℕ) : Type 0 where
   digits : List ℕ
   parts : bytes ≡ digits ++ rest
@@ -86,8 +86,8 @@ number_at-takes (b ∷ bytes) n rest e =
 -- ---- Every decimal number can be read
 
 -- `Leads n digits` holds if n is at least 10 ^ 10, or if the bytes `digits` are read as the number n. This means that
--- reading a number from `digits` and any further bytes (`number_at`) has the same result as continuing with the number
--- n and the further bytes (`more_digits`).
+-- reading a number from `digits` and any further bytes (`number_at`) has the same result as continuing the number n
+-- with the further bytes (`more_digits`).
 abbrev Leads : ℕ → List ℕ → Type 0
 Leads n digits = n < 10 ^ 10 → (tail : List ℕ) → number_at (digits ++ tail) ≡ more_digits n tail
 

@@ -1,5 +1,5 @@
--- Lemmas about the test whether bytes are a label, and about reading a plain label, which is a label without quotation
--- marks.
+-- The lemmas in this file are about the test whether bytes are a label, and about reading a plain label, which is a
+-- label without quotation marks.
 use Rattle.std.proofs.Common.{rules, ◌≡◌, ℕ, suc, ◌+◌, ◌≤◌, true, List, [], ◌∷◌, ◌++◌, length, take, drop, All, Option}
 use Rattle.std.proofs.Common.{Some, None, refl, sym, ap, inl, inr, arith}
 use Rattle.std.specs.Prelude.{nat_le, ◌&&◌}
@@ -57,8 +57,8 @@ words_printable : (bs : List ℕ) → list_all is_word bs ≡ true → All (λ b
 words_printable bs e = search (rules, All-weaker, word-range, AllPass-from_list_all)
 
 -- `Plain b bs` holds if the byte b, followed by the bytes bs, is a label that may be written without quotation marks.
--- Three conditions must hold. First, b is a letter or an underscore. Second, all bytes in bs are letters, underscores
--- or digits. Third, the label has at most 8000 bytes.
+-- All three of the following conditions must hold. First, b is a letter or an underscore. Second, all bytes in bs are
+-- letters, underscores or digits. Third, the label has at most 8000 bytes.
 pub record Plain (b : ℕ) (bs : List ℕ) : Type 0 where
   pub letter : is_letter b ≡ true
   pub words : list_all is_word bs ≡ true

@@ -14,32 +14,33 @@ use Rattle.autfmt.specs.LabelTexts.{from_source, written_lines}
 use Rattle.autfmt.specs.Written.{written_transition}
 
 -- Suppose that bytes of the buffer are written to the sink (the object to which the output is written) and removed from
--- the buffer. Then the bytes that were written, followed by the bytes in the buffer, are still the same bytes.
+-- the buffer. Then the list of the bytes that were written, followed by the bytes in the buffer, does not change.
 pub goes_on : {old mid new : Option (List ℕ)} {waiting later bytes : List ℕ} → Progress old mid waiting bytes →
     Progress mid new later waiting → Progress old new later bytes
 goes_on {old} {mid} {new} {waiting} {later} p q =
     grind (arith, p.front, q.front, Appends-trans, p.gained, q.gained, p.whole, q.whole, append_assoc)
 
 -- Suppose that `bytes` are the bytes that were written to the sink (the object to which the output is written),
--- followed by the bytes in the buffer. If further bytes are appended to the buffer, then they are also appended to
--- `bytes`.
+-- followed by the bytes in the buffer. If further bytes are appended to the buffer, then the bytes that were written,
+-- followed by the bytes in the buffer, are the list `bytes` followed by these further bytes.
 pub waits_too : {old new : Option (List ℕ)} {waiting bytes : List ℕ} (more : List ℕ) → Progress old new waiting bytes →
     Progress old new (waiting ++ more) (bytes ++ more)
 waits_too {waiting = waiting} more p = grind (arith, p.front, p.gained, p.whole, append_assoc)
 
--- Before anything is written to the sink (the object to which the output is written), all bytes are in the buffer.
+-- As long as nothing has been written to the sink (the object to which the output is written), all bytes that have been
+-- produced are in the buffer.
 pub nothing_put : (w : Option (List ℕ)) (bytes : List ℕ) → Progress w w bytes bytes
 nothing_put w bytes = record { front = []; gained = Appends-nil w; whole = refl }
 
 -- Suppose that writing the bytes in the buffer to the sink (the object to which the output is written) fails. Then the
--- bytes that were written to the sink are a prefix of the whole output so far.
+-- bytes that were written to the sink are a prefix of the whole output that has been produced so far.
 pub beginning_put : {old mid : Option (List ℕ)} {waiting bytes : List ℕ} (new : Option (List ℕ)) →
     Progress old mid waiting bytes → AppendsPrefix mid new waiting → AppendsPrefix old new bytes
 beginning_put {old} {mid} new p (front, back, is, put) =
     (p.front ++ front, back, rw (p.whole, is, append_assoc) refl, Appends-trans old mid new p.front front p.gained put)
 
--- If the bytes that were written are a prefix of a list of bytes, then they are also a prefix of each longer list that
--- begins with this list.
+-- If the bytes that were written to the sink are a prefix of the list `bytes`, then the written bytes are a prefix of
+-- each longer list that begins with `bytes`.
 pub longer : {bytes : List ℕ} (old new : Option (List ℕ)) (rest : List ℕ) → AppendsPrefix old new bytes →
     AppendsPrefix old new (bytes ++ rest)
 longer old new rest (front, back, is, put) = (front, back ++ rest, rw (is, append_assoc) refl, put)
@@ -55,8 +56,8 @@ pub lines-append : (entries : List Entry) (xs ys : List Triple) →
 lines-append entries xs ys = rw (map-append, flat_map-append) refl
 
 module _ (entries : List Entry) (source : ℕ) (row : List (ℕ × ℕ)) where
-  -- A row has the outgoing transitions of one state. `lines_to i` returns the lines of its first i transitions, and
-  -- `lines_from i` returns the lines of its other transitions.
+  -- A row consists of the outgoing transitions of one state. `lines_to i` returns the lines of the first i transitions
+  -- of the row, and `lines_from i` returns the lines of the other transitions of the row.
   abbrev pub lines_to : ℕ → List ℕ
   lines_to i = written_lines entries (map (from_source source) (take i row))
 
@@ -71,8 +72,10 @@ module _ (entries : List Entry) (source : ℕ) (row : List (ℕ × ℕ)) where
   one_line_more i d h = rw (map_more (from_source source) row i d h, lines-append entries, append-nil) refl
 
   -- Suppose that the bytes that were written to the sink (the object to which the output is written), followed by the
-  -- bytes in the buffer, are the lines of the first i transitions of a row. If the line of the transition at the index
-  -- i of this row is appended to the buffer, then they are the lines of the first i + 1 transitions.
+  -- bytes in the buffer, are the bytes `start`, followed by the lines of the first i transitions of a row. Suppose also
+  -- that bytes of the buffer are then written to the sink, and that the line of the transition at the index i of this
+  -- row is appended to the buffer. Then the bytes that were written to the sink, followed by the bytes in the buffer,
+  -- are `start`, followed by the lines of the first i + 1 transitions.
   pub line_waits : {old mid new : Option (List ℕ)} {waiting earlier label : List ℕ} (start : List ℕ) (i : ℕ) (d : ℕ × ℕ)
       → i < length row → Progress old mid waiting (start ++ lines_to i) → Progress mid new earlier waiting
       → label ≡ text_of (texts entries) (get_or row i d).0 → (now : List ℕ) → now ≡ earlier ++ written_transition
@@ -82,9 +85,9 @@ module _ (entries : List Entry) (source : ℕ) (row : List (ℕ × ℕ)) where
       let line = written_transition (transition_of (texts entries) (from_source source (get_or row i d))) in
       rw (is, named, one_line_more i d h, ← append_assoc start (lines_to i) line) (waits_too line (goes_on p q))
 
-  -- A row has the outgoing transitions of one state. Suppose that the first i lines of a row have been appended to the
-  -- buffer, and that writing the buffer to the sink (the object to which the output is written) fails. Then the bytes
-  -- that were written to the sink are a prefix of the output up to the end of this row.
+  -- A row consists of the outgoing transitions of one state. Suppose that the first i lines of a row have been appended
+  -- to the buffer, and that writing the buffer to the sink (the object to which the output is written) fails. Then the
+  -- bytes that were written to the sink are a prefix of the output up to the end of this row.
   pub row_begun : {old mid : Option (List ℕ)} {waiting : List ℕ} (new : Option (List ℕ)) (start : List ℕ) (i : ℕ)
       → Progress old mid waiting (start ++ lines_to i) → AppendsPrefix mid new waiting
       → AppendsPrefix old new (start ++ written_lines entries (map (from_source source) row))

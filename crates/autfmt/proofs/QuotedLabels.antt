@@ -1,4 +1,4 @@
--- Lemmas about reading a quoted label. A quoted label ends at the last quotation mark of its line.
+-- The lemmas in this file are about reading a quoted label. A quoted label ends at the last quotation mark of its line.
 use Rattle.std.proofs.Common.{rules, ◌≡◌, ◌≢◌, ℕ, zero, suc, ◌+◌, ◌<◌, false, cond, List, [], ◌∷◌, ◌++◌, length, get_or}
 use Rattle.std.proofs.Common.{take, drop, Option, Some, None, refl, sym, ap, ◌∙◌, append_assoc, add-one, arith}
 use Rattle.std.specs.Prelude.{◌==◌}

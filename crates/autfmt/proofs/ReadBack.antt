@@ -19,7 +19,8 @@ use Rattle.autfmt.specs.Texts.{Lines, IsOneLine, IsShort, SpellsTransition, Read
 use Rattle.autfmt.specs.Cutter.{with_line_feeds}
 use Rattle.autfmt.specs.Written.{written_label, header_of, written_transition, listed, IsInWrittenOrder}
 
--- `Visible bs` holds if each byte of bs is at least 32. In particular, no byte of bs is then a line feed.
+-- `Visible bs` holds if each byte of bs is at least 32. In this case, bs contains no line feed, because a line feed is
+-- the byte 10.
 pub record Visible (bs : List ℕ) : Type 0 where
   pub each : All (λ b. 32 ≤ b) bs
 
@@ -34,8 +35,9 @@ one_line bs seen = All-weaker (λ b. 32 ≤ b) (λ b. b ≢ 10) (λ b h e. absur
 pub visible_append : {xs ys : List ℕ} → Visible xs → Visible ys → Visible (xs ++ ys)
 visible_append a b = record { each = All-append (λ b. 32 ≤ b) _ _ a.each b.each }
 
--- Suppose that the test `leb 32` returns true for each byte of bs. Then `Visible bs` holds, which means that each byte
--- of bs is at least 32. The lemma is used for the tokens that the grammar fixes, such as `des` and the comma.
+-- Suppose that the test `leb 32` (is the byte at least 32?) returns true for each byte of bs. Then `Visible bs` holds,
+-- which means that each byte of bs is at least 32. The lemma is used for the tokens that the grammar fixes, such as
+-- `des` and the comma.
 pub literal : (bs : List ℕ) → list_all (λ b. leb 32 b) bs ≡ true → Visible bs
 literal bs h = search (rules, All-weaker, AllPass-from_list_all)
 
@@ -220,8 +222,9 @@ listed_whole B system small =
     let all = header_line B ∷ map transition_line es in
     (all, [], record { whole = listed_lines B; lines = lines; one = none }, sym (append-nil all))
 
--- Suppose that a well-formed system is within the limits `bounds`, and that these do not exceed the limits for files.
--- Then the text that is written for the system denotes this system.
+-- Suppose that a well-formed system is within the limits `bounds`, and that `bounds` does not exceed the limits for
+-- files. Then the header of the system, followed by the lines of its transitions in the order of the system (`listed`),
+-- denotes this system.
 listed_reads : (bounds : Bounds) (B : System) → IsWithinFile bounds → IsSystem B → B.states ≤ bounds.states
     → length B.transitions ≤ bounds.transitions → Reads bounds (listed B) B
 listed_reads bounds B within system states transitions =

@@ -1,4 +1,4 @@
--- Lemmas about the result of reading a system, which is the system or an error.
+-- The lemmas in this file are about the result of reading a system, which is the system or an error.
 use Rattle.std.proofs.Common.{◌≡◌, ℕ, List, length, Option, IfSome, Result, IfErr, ◌∙◌, ap, arith, rules}
 use Rattle.std.proofs.lemmas.List.Sorted.{length_permutation, Contains-permutation}
 use Rattle.std.specs.Io.KnownBytes.{IsAtEnd}
@@ -13,8 +13,8 @@ use Rattle.autfmt.specs.Outcomes.{ReadsTo, AnswersRead}
 use Rattle.autfmt.specs.ReadSoFar.{HoldsText}
 use Rattle.autfmt.proofs.Holding.{Holds-length}
 
--- Suppose that the contract of the source (the object from which the input is read) states the whole input. If the
--- reader returns an error in the contents of the input, then this error is the first error of the input.
+-- A source is the object from which the input is read. Suppose that the contract of the source states the whole input.
+-- If the reader returns an error in the contents of the input, then this error is the first error of the input.
 pub told_fault :
     (bounds : Bounds) (H : List (List ℕ)) (old new : Option (List ℕ)) (failures : ℕ) (result : Result Grouped Fault) →
     AnswersRead bounds H old new failures result →

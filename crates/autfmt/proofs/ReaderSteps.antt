@@ -1,5 +1,5 @@
--- Lemmas about the steps in which a system is read. The lemmas describe the state of the reader after each step, and
--- justify each error that the reader returns.
+-- The lemmas in this file are about the steps in which a system is read. The lemmas describe the state of the reader
+-- after each step, and justify each error that the reader returns.
 use Rattle.std.proofs.Common.{◌≡◌, ◌⊎◌, ℕ, ◌+◌, ◌<◌, ◌≤◌, Bool, true, false, List, [], ◌∷◌, ◌++◌, length, Option, Some}
 use Rattle.std.proofs.Common.{IfSome, Result, Ok, Err, IfOk, IfErr, MatchResult, refl, sym, ◌∙◌, ap, subst, inl, inr}
 use Rattle.std.proofs.Common.{arith, rules}
@@ -39,21 +39,24 @@ HasCut-fresh old e = subst (λ (c : Cutting). HasCut [] [] c) (sym e) HasCut-new
 pub fresh_goes_on : (old : Cutting) → old ≡ fresh → old.over ≡ true → ⊥
 fresh_goes_on old e over = let f = ap (λ (c : Cutting). c.over) e in cc
 
--- `ReadSoFar` says which transitions have been read so far. If `ReadSoFar` holds for a state of the line splitter, then
--- it also holds for each other state that differs only in the line that the line splitter has returned last.
+-- `ReadSoFar` states which transitions the reader has read from the bytes `given`. Suppose that two states of the line
+-- splitter differ only in the line that was split off last. If `ReadSoFar` holds for one of these two states, then
+-- `ReadSoFar` holds for the other state.
 pub whatever_line :
     (bounds : Bounds) (given line other ahead : List ℕ) (over : Bool) (p : Promise) (es : List Transition) →
     ReadSoFar bounds given (record { line = line; ahead = ahead; over = over }) p es →
     ReadSoFar bounds given (record { line = other; ahead = ahead; over = over }) p es
 whatever_line bounds given line other ahead over p es so_far = search rules
 
--- Suppose that a property holds for all bytes that a source (the object from which the input is read) may still return.
--- If the contract of the source states which bytes the source will return, then the property holds for these bytes.
+-- A source is the object from which the input is read. Suppose that every list of bytes that may still be read from a
+-- source has a certain property. If the contract of the source states which bytes are still to be read, then the list
+-- of these bytes has this property.
 pub if_told : (rest : Option (List ℕ)) (P : List ℕ → Type 0) → ((more : List ℕ) → rest ≡ Some more → P more) →
     IfSome rest P
 if_told rest P holds = grind arith
 
--- If a source (the object from which the input is read) has ended, it has no further bytes.
+-- If a source (the object from which the input is read) has ended, then the list of the bytes that are still to be read
+-- from it is empty.
 pub none_to_come : (rest : Option (List ℕ)) (more : List ℕ) → rest ≡ Some more → IsAtEnd rest → more ≡ []
 none_to_come rest more e end = subst (λ (o : Option (List ℕ)). IsAtEnd o) e end
 
@@ -62,7 +65,7 @@ module _ (bounds : Bounds) (old : Cutting) (got : List ℕ) (rest : Option (List
     (new : old ≡ fresh) where
   -- Suppose that the source (the object from which the input is read) fails before line 1 has been read to its end.
   -- Then the reader may return `Device`, which is the error of a failed source. The contract allows this error only if
-  -- the first error of the input still depends on the bytes that may follow. It depends on them, because line 1 may
+  -- the first error of the input still depends on the bytes that may follow. The reason for this is that line 1 may
   -- still become too long.
   pub header_failed : failures ≡ 1 → IsPart (old.ahead ++ got) → Refuses bounds got rest failures Device
   header_failed failed part = failed_source failed refl (λ f. no_judged_header bounds got f (rw new at part))
@@ -78,8 +81,8 @@ module _ (bounds : Bounds) (old : Cutting) (got : List ℕ) (rest : Option (List
       HasCut-too_long [] got [] old (HasCut-fresh old new) (fresh_goes_on old new) more long in
       header line others l (HeaderFault.too_long refl big)))
 
-  -- If the line splitter has split off line 1, then the result of checking this line is correct: it is either a correct
-  -- header or the first error of the input.
+  -- If the line splitter has split off line 1, then the result of checking this line is correct: either line 1 is a
+  -- correct header, or the result is the first error of the input.
   pub header_answer :
       (now : Cutting) (result : Result Promise Fault) → failures ≡ 0 → (now.over ≡ true → IsAtEnd rest) →
       CutsLine (old.ahead ++ got) now → IfOk result (λ p. GoodHeader bounds now.line p.first p.transitions p.states) →
@@ -131,9 +134,9 @@ module _ {bounds : Bounds} {given : List ℕ} {old : Cutting} {p : Promise} {es 
 
   -- Suppose that the source (the object from which the input is read) fails before the next line has been read to its
   -- end. Then the reader may return `Device`, which is the error of a failed source. The contract allows this error
-  -- only if the first error of the input still depends on the bytes that may follow. It depends on them, because the
-  -- next line may still become too long, or because all transitions have been read and the input has no error if it
-  -- ends here.
+  -- only if the first error of the input still depends on the bytes that may follow. The reason for this is that the
+  -- next line may still become too long, or that all transitions have been read and the input has no error if it ends
+  -- here.
   pub transition_failed : (rest : Option (List ℕ)) (failures : ℕ) → length es ≤ p.transitions →
       (length es < p.transitions) ⊎ (length (old.ahead ++ got) ≡ 0) → failures ≡ 1 → (old.over ≡ true → ⊥) →
       IsPart (old.ahead ++ got) → Refuses bounds (given ++ got) rest failures Device
@@ -146,7 +149,7 @@ module _ {bounds : Bounds} {given : List ℕ} {old : Cutting} {p : Promise} {es 
 
   -- Suppose that the source (the object from which the input is read) fails after the last transition that the header
   -- declares. Then the reader may return `Device`, which is the error of a failed source. The contract allows this
-  -- error only if the first error of the input still depends on the bytes that may follow. It depends on them, because
+  -- error only if the first error of the input still depends on the bytes that may follow. The reason for this is that
   -- the input has no error if no further line follows.
   pub end_failed :
       (rest : Option (List ℕ)) (failures : ℕ) → length es ≡ p.transitions → failures ≡ 1 → (old.over ≡ true → ⊥) →
@@ -176,9 +179,9 @@ module _ {bounds : Bounds} {given : List ℕ} {old : Cutting} {p : Promise} {es 
       p.states rest failures
       (HasCut-line given got before old so_far.cut goes_on now cuts) so_far.good sound end
 
-  -- Assume that the source (the object from which the input is read) has not failed. In this case, each error that the
-  -- reader returns must be the first error of the whole input. This is required only if the contract of the source
-  -- states which bytes it contains.
+  -- Assume that the source (the object from which the input is read) has not failed. If the contract of the source
+  -- states which bytes the source contains, each error that the reader returns must then be the first error of the
+  -- whole input.
   module _ (found : ℕ) (rest : Option (List ℕ)) (failures : ℕ) (count : length es ≡ found) (sound : failures ≡ 0) where
     refused_behind : (fault : Fault) → IsTextFault fault →
         ((more : List ℕ) → rest ≡ Some more → (others : List (List ℕ)) × Lines (given ++ got ++ more) (before ++ others)

@@ -1,5 +1,5 @@
--- Lemmas about the text that is written for a system. The text is written row by row, where a row has the outgoing
--- transitions of one state.
+-- The lemmas in this file are about the text that is written for a system. The text is written row by row, where a row
+-- consists of the outgoing transitions of one state.
 use Rattle.std.proofs.Common.{◌≡◌, ℕ, ◌+◌, Option, List, ◌++◌, length, map, IsPermutation, IsSorted, subst}
 use Rattle.std.proofs.Common.{append_assoc, rules}
 use Rattle.std.specs.Io.KnownBytes.{Appends}
@@ -22,8 +22,8 @@ abbrev pub text_to : Grouped → Words → List Triple → List ℕ
 text_to g words order = header_of g.first (length g.places) g.states ++ written_lines words.entries.items order
 
 -- `RowsWait g words old new waiting s` holds if the header and the lines of all transitions with a source less than s
--- have been produced. A prefix of these bytes was written to the sink (the object to which the output is written), and
--- the other bytes are in the buffer.
+-- have been produced. States are numbers, so that they can be compared with s. A prefix of these bytes was written to
+-- the sink (the object to which the output is written), and the other bytes are in the buffer.
 pub record RowsWait (g : Grouped) (words : Words) (old new : Option (List ℕ)) (waiting : List ℕ) (s : ℕ) : Type 0 where
   pub order : List Triple
   pub ordered : AreOrdered words.ranks.items g.places s order
@@ -41,9 +41,9 @@ module _ {g : Grouped} {words : Words} (lts : IsLts g) (are : AreWords g.labels 
       same up in
       (system_from g.first g.states (texts words.entries.items) order, written, cc)
 
-  -- A row has the outgoing transitions of one state. Suppose that the header and the rows of all states less than s
-  -- have been produced, and that writing the buffer to the sink (the object to which the output is written) fails. Then
-  -- the bytes that were written to the sink are a prefix of the whole output.
+  -- A row consists of the outgoing transitions of one state (states are numbers). Suppose that the header and the rows
+  -- of all states less than s have been produced, and that writing the buffer to the sink (the object to which the
+  -- output is written) fails. Then the bytes that were written to the sink are a prefix of the whole output.
   pub rows_begun : {old mid : Option (List ℕ)} {waiting : List ℕ} {s : ℕ} (new : Option (List ℕ)) →
       RowsWait g words old mid waiting s → AppendsPrefix mid new waiting → GainsPrefix (system_of g) old new
   rows_begun {old} {s = s} new rows put =
@@ -62,9 +62,9 @@ module _ {g : Grouped} {words : Words} (lts : IsLts g) (are : AreWords g.labels 
       GainsText (system_of g) old new
   rows_put new all rows put = search (rules, text_from_order, all_ordered, everything_put, rows.progress)
 
-  -- A row has the outgoing transitions of one state. Suppose that the header and the rows of all states less than s
-  -- have been produced, and that the lines of the row of the state s are then appended to the buffer. Then the header
-  -- and the rows of all states less than s + 1 have been produced.
+  -- A row consists of the outgoing transitions of one state (states are numbers). Suppose that the header and the rows
+  -- of all states less than s have been produced, and that the lines of the row of the state s are then appended to the
+  -- buffer. Then the header and the rows of all states less than s + 1 have been produced.
   pub next_row : {old mid new : Option (List ℕ)} {waiting later : List ℕ} {s : ℕ} (row : List (ℕ × ℕ))
       → RowsWait g words old mid waiting s → IsSortedRow words.ranks.items (row_of s g.places) row
       → Progress mid new later (waiting ++ written_lines words.entries.items (map (from_source s) row))
@@ -82,7 +82,7 @@ module _ {g : Grouped} {words : Words} (lts : IsLts g) (are : AreWords g.labels 
       }
 
 -- If only the header has been appended to the buffer, then the header and the rows of all states less than 0 have been
--- produced (`RowsWait`). A row has the outgoing transitions of one state.
+-- produced (`RowsWait`), since there are no such states. A row consists of the outgoing transitions of one state.
 pub no_row : {g : Grouped} {words : Words} {header : List ℕ} (w : Option (List ℕ)) → before 0 g.places ≡ 0 →
     header ≡ header_of g.first (length g.places) g.states → RowsWait g words w w header 0
 no_row {g} {words} {header} w first is = search rules

@@ -1,6 +1,6 @@
 -- Suppose that two calls read bytes from a source (an object from which an input is read), one call after the other.
--- Suppose also that a result is correct for the bytes of the first call, followed by the bytes of the second call. Then
--- this result satisfies the contract `Takes` for both calls together.
+-- Suppose also that a result satisfies the conditions of `Takes` for the list of all bytes that these two calls have
+-- read. Then `Takes` holds for the result and the sequence of the two calls.
 use Rattle.std.proofs.Common.{ℕ, List, ◌++◌, Option, Result, MatchResult, arith}
 use Rattle.std.specs.Io.KnownBytes.{Consumes}
 use Rattle.std.proofs.KnownBytes.{Consumes-trans}

@@ -1,5 +1,5 @@
--- The module `usual` is a fast path that reads transitions in their most common written forms. If it reads a transition
--- at the beginning of some bytes, then the first line of these bytes denotes this transition.
+-- The module `usual` is a fast path that reads transitions in their most common written forms. If the module reads a
+-- transition at the beginning of some bytes, then the first line of these bytes denotes this transition.
 use Rattle.std.proofs.Common.{◌≡◌, ◌≢◌, ℕ, ◌+◌, ◌^◌, ◌<◌, ◌≤◌, true, false, not, eqb, List, [], ◌∷◌, ◌++◌, length}
 use Rattle.std.proofs.Common.{get_or, take, drop, map, codes, decimal, Some, refl, sym, ap, ◌∙◌, inl, inr, append_assoc}
 use Rattle.std.proofs.Common.{length-append, Bool, arith, rules}
@@ -61,14 +61,14 @@ number_in_front bytes n v found leads =
 
 -- ---- Labels
 
--- Suppose that a bit mask has one bit for each byte of a list, and that a bit is set if and only if a test returns true
--- for its byte. If the mask is not zero, then the test returns true for some byte of the list.
+-- Suppose that a bit mask contains one bit for each byte of a list, and that each bit is set if and only if a test
+-- returns true for the byte of this bit. If the mask is not zero, then the test returns true for some byte of the list.
 lane_passes : (p : ℕ → Bool) (xs : List ℕ) → 0 < mask_l (map p xs) → prefix_len (λ x. not (p x)) xs < length xs
 lane_passes p [] some = absurd (omega arith)
 lane_passes p (x ∷ xs) some = let h = lane_passes p xs in grind (arith, h)
 
--- Suppose that a bit mask has one bit for each of sixteen bytes, and that a bit is set if and only if its byte equals
--- `byte`. If the mask is not zero, then its lowest set bit belongs to a byte that equals `byte`.
+-- Suppose that a bit mask contains one bit for each of sixteen bytes, and that each bit is set if and only if the byte
+-- of this bit equals `byte`. If the mask is not zero, then the byte of the lowest set bit equals `byte`.
 pub byte_in_lanes : (bytes : List ℕ) (i byte mask : ℕ) → i + 16 ≤ length bytes
     → mask ≡ mask_l (map (λ x. eqb x byte) (chunk i 16 bytes)) → 0 < mask
     → (i + count_trailing_zeros 64 mask < length bytes) × (get_or bytes (i + count_trailing_zeros 64 mask) 0 ≡ byte)
@@ -81,8 +81,8 @@ byte_in_lanes bytes i byte mask room is some =
     let short : count_trailing_zeros 64 mask < 16 = omega (arith, first, lane_passes passes v some_lane) in
     (omega arith, eqb-true _ _ (run_in_chunk_stops passes bytes i 16 _ 0 room first short))
 
--- If the byte at the index i of a list is `byte`, then the elements of the list from this index on are `byte` and the
--- elements after the index i.
+-- Suppose that the byte at the index i of a list is `byte`. Then the part of the list that begins at this index
+-- consists of `byte` and of the elements after the index i.
 pub byte_at : (bytes : List ℕ) (i byte : ℕ) (rest : List ℕ) → i < length bytes → get_or bytes i 0 ≡ byte →
     drop (i + 1) bytes ≡ rest → drop i bytes ≡ byte ∷ rest
 byte_at bytes i byte rest room is behind = rw (drop_more bytes i 0 room, is, behind) refl

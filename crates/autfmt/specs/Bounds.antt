@@ -3,8 +3,8 @@
 use Rattle.std.specs.Prelude.{ℕ, ◌≤◌}
 use Rattle.autfmt.specs.declared.limits.TheConstants.{FILE_STATES, FILE_TRANSITIONS}
 
--- The limits that a reader enforces on a header: the largest number of states and the largest number of transitions
--- that a header may declare.
+-- `Bounds` contains the limits that a reader enforces on a header: the largest number of states and the largest number
+-- of transitions that a header may declare.
 pub record Bounds : Type 0 where
   pub states : ℕ
   pub transitions : ℕ
@@ -13,7 +13,8 @@ pub record Bounds : Type 0 where
 abbrev pub bounds : ℕ → ℕ → Bounds
 bounds s t = record { states = s; transitions = t }
 
--- The limits on states and transitions for files, which are the constants `FILE_STATES` and `FILE_TRANSITIONS`.
+-- `file_bounds` are the limits on states and transitions for files, which are the constants `FILE_STATES` and
+-- `FILE_TRANSITIONS`.
 abbrev pub file_bounds : Bounds
 file_bounds = bounds FILE_STATES FILE_TRANSITIONS
 

@@ -8,28 +8,29 @@ use Rattle.autfmt.specs.Texts.{Lines, IsOneLine, IsShort}
 use Rattle.autfmt.specs.declared.cutter.TheConstants.{CHUNK}
 use Rattle.autfmt.specs.declared.line.TheConstants.{LONGEST_LINE}
 
--- The state of the line splitter. The field `line` is the line that was split off last. The field `ahead` has the bytes
--- that were read from the source (the object from which the input is read) but not yet divided into lines. The field
--- `over` is true if the line splitter has reached the end of the source.
+-- `Cutting` is the state of the line splitter. The field `line` is the line that was split off last. The field `ahead`
+-- contains the bytes that were read from the source (the object from which the input is read) but not yet divided into
+-- lines. The field `over` is true if the line splitter has reached the end of the source.
 pub record Cutting : Type 0 where
   pub line : List ℕ
   pub ahead : List ℕ
   pub over : Bool
 
--- `cut_line span chunk buffer` is the line that the line splitter has split off last. The list `chunk` begins with the
--- bytes that were last read from the input. If `span` is a range (a start index and an end index), the line consists of
--- the bytes of `chunk` in this range. If `span` is `None`, the line is the content of the buffer, which is the argument
--- `buffer`.
+-- `cut_line span chunk buffer` is the line that the line splitter has split off last. The bytes that were last read
+-- from the input are stored at the beginning of the list `chunk`. If `span` is a range (a start index and an end
+-- index), the line consists of the bytes of `chunk` in this range. If `span` is `None`, the line is the list `buffer`,
+-- which is the content of the buffer.
 abbrev pub cut_line : Option (ℕ × ℕ) → List ℕ → List ℕ → List ℕ
 cut_line None chunk buffer = buffer
 cut_line (Some span) chunk buffer = slice_range chunk span.0 span.1
 
 -- `IsCutter from to span over` is the invariant of the line splitter. The chunk is an array of `CHUNK` bytes, and its
 -- first `to` bytes are the bytes that were last read from the input. The next line begins at the index `from` of the
--- chunk. The line that was split off last is the range `span` of the chunk, or is in a buffer if `span` is `None`. The
--- invariant states three facts. First, `from` is at most `to`, and `to` is at most `CHUNK`. Second, if `span` is a
--- range, this range lies within the chunk. Third, if the source (the object from which the input is read) has ended
--- (`over`), then `from` equals `to`, so that all bytes of the chunk have been divided into lines.
+-- chunk. If `span` is a range, the line that was split off last consists of the bytes of the chunk in this range. If
+-- `span` is `None`, this line is in a buffer. The invariant states three facts. First, `from` is at most `to`, and `to`
+-- is at most `CHUNK`. Second, if `span` is a range, this range lies within the chunk. Third, if the source (the object
+-- from which the input is read) has ended (`over`), then `from` equals `to`, so that all bytes of the chunk have been
+-- divided into lines.
 pub record IsCutter (from to : ℕ) (span : Option (ℕ × ℕ)) (over : Bool) : Type 0 where
   pub ordered : from ≤ to
   pub within : to ≤ CHUNK
@@ -42,10 +43,11 @@ abbrev pub BeginsTooLong : List ℕ → Type 0
 BeginsTooLong bytes =
     (front : List ℕ) × (tail : List ℕ) × IsOneLine front × (LONGEST_LINE < length front) × (bytes ≡ front ++ tail)
 
--- `CutsLine bytes now` holds if the line splitter has split off the first line of the list `bytes`, and `now` is its
--- state after this. The line is `now.line`, and it must have at most 8192 bytes (`LONGEST_LINE`). There are two cases.
--- In the first case, a line feed follows the line, and `now.ahead` has the bytes after this line feed. In the second
--- case, the input has ended, the list `bytes` is this line, which is not empty, and `now.ahead` is empty.
+-- `CutsLine bytes now` holds if the line splitter has split off the first line of the list `bytes`, and `now` is the
+-- state of the line splitter after this. The line is `now.line`, and it must have at most 8192 bytes (`LONGEST_LINE`).
+-- If the line splitter has not reached the end of the input (`now.over` is false), a line feed follows the line, and
+-- `now.ahead` contains the bytes after this line feed. If the line splitter has reached the end of the input, the list
+-- `bytes` consists of this line only, which is not empty, and `now.ahead` is empty.
 pub record CutsLine (bytes : List ℕ) (now : Cutting) : Type 0 where
   pub one : IsOneLine now.line
   pub short : IsShort now.line
@@ -53,9 +55,9 @@ pub record CutsLine (bytes : List ℕ) (now : Cutting) : Type 0 where
       ((now.over ≡ false) × (bytes ≡ now.line ++ 10 ∷ now.ahead))
       ⊎ ((now.over ≡ true) × (now.ahead ≡ []) × (1 ≤ length now.line) × (bytes ≡ now.line))
 
--- `CutsEnd bytes now` holds under three conditions. First, the list `bytes` is empty. Second, the line splitter in the
--- state `now` has divided all bytes that it has read into lines (`now.ahead` is empty). Third, it has reached the end
--- of the input (`now.over`).
+-- `CutsEnd bytes now` holds if all three of the following conditions hold. First, the list `bytes` is empty. Second,
+-- the line splitter in the state `now` has divided all bytes that it has read into lines (`now.ahead` is empty). Third,
+-- the line splitter has reached the end of the input (`now.over`).
 pub record CutsEnd (bytes : List ℕ) (now : Cutting) : Type 0 where
   pub none : bytes ≡ []
   pub ahead : now.ahead ≡ []
@@ -67,10 +69,10 @@ abbrev pub IsPart : List ℕ → Type 0
 IsPart bytes = IsOneLine bytes × IsShort bytes
 
 -- `Feeds rest failures at` holds if the line splitter in the state `at` may still read from its source (the object from
--- which the input is read). The argument `rest` has the bytes that the source will still return, or is `None` if these
--- bytes are not known. The argument `failures` is the number of failures of the source. There are two conditions.
--- First, the source has not failed. Second, if the line splitter has reached the end of the source (`at.over`), then
--- `rest` contains no bytes.
+-- which the input is read). The argument `rest` contains the bytes that are still to be read from the source, or is
+-- `None` if these bytes are not known. The argument `failures` is the number of failures of the source. `Feeds`
+-- requires that the source has not failed. If the line splitter has reached the end of the source (`at.over`), `Feeds`
+-- also requires that `rest` contains no bytes.
 pub record Feeds (rest : Option (List ℕ)) (failures : ℕ) (at : Cutting) : Type 0 where
   pub sound : failures ≡ 0
   pub end : IsTrue at.over → IsAtEnd rest
@@ -81,10 +83,9 @@ abbrev pub with_line_feeds : List (List ℕ) → List ℕ
 with_line_feeds lines = flat_map (λ line. line ++ 10 ∷ []) lines
 
 -- `HasCut given lines at` holds if the line splitter in the state `at` has divided the bytes `given` into the lines of
--- the list `lines`. There are two cases. In the first case, the line splitter has not reached the end of the input
--- (`at.over`). Then `given` consists of the lines, each followed by a line feed, and of the bytes that are not yet
--- divided into lines (`at.ahead`). In the second case, the line splitter has reached the end of the input. Then `lines`
--- are all lines of `given`, and `at.ahead` is empty.
+-- the list `lines`. If the line splitter has not reached the end of the input (`at.over` is false), `given` consists of
+-- these lines, each followed by a line feed, and of the bytes that are not yet divided into lines (`at.ahead`). If the
+-- line splitter has reached the end of the input, `lines` contains all lines of `given`, and `at.ahead` is empty.
 abbrev pub HasCut : List ℕ → List (List ℕ) → Cutting → Type 0
 HasCut given lines at =
     ((at.over ≡ false) × (given ≡ with_line_feeds lines ++ at.ahead) × All IsOneLine lines)

@@ -25,7 +25,7 @@ NumbersFault bounds f m n TooManyTransitions = (f < n) × (n ≤ bounds.states) 
 NumbersFault bounds f m n _ = ⊥
 
 -- `HeaderFault bounds line fault` holds if `line`, which is line 1 of an input, is not a correct header, and `fault` is
--- its error. The limits `bounds` are the limits on the numbers that a header may declare.
+-- the error of this line. The limits `bounds` restrict the numbers that a header may declare.
 pub data HeaderFault (bounds : Bounds) (line : List ℕ) (fault : Fault) : Type 0 where
   too_long : fault ≡ LineTooLong 1 → LONGEST_LINE < length line → HeaderFault bounds line fault
   unread : fault ≡ BadHeader → IsShort line → ((f m n : ℕ) → ¬ Header line f m n) → HeaderFault bounds line fault
@@ -41,10 +41,10 @@ pub data EdgeFault (n k : ℕ) (line : List ℕ) (fault : Fault) : Type 0 where
   target : fault ≡ TargetRange k → (e : Transition) → SpellsTransition line e → e.source < n → n ≤ e.target →
       EdgeFault n k line fault
 
--- `BeginsWell bounds text m n es others` holds if the input `text` has the following lines. The first line is a correct
--- header within the limits `bounds`, which declares m transitions and n states. Then there is one line for each
--- transition in the list es. The source and the target of each of these transitions are less than n. The remaining
--- lines are the lines in the list `others`.
+-- `BeginsWell bounds text m n es others` holds if the input `text` consists of the following lines. The first line is a
+-- correct header within the limits `bounds`, which declares m transitions and n states. After the header, there is one
+-- line for each transition in the list es. The sources and targets of these transitions are states of the system, which
+-- are the numbers less than n. The remaining lines of the input are the lines in the list `others`.
 pub record BeginsWell (bounds : Bounds) (text : List ℕ) (m n : ℕ) (es : List Transition) (others : List (List ℕ)) :
     Type 0 where
   pub header : List ℕ

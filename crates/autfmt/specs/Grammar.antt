@@ -1,5 +1,5 @@
--- The grammar of a line without its line feed. A line is a header, a transition, or a line of a hide list (the labels
--- to hide). The `aut` manual page describes the format, and this project restricts it further.
+-- This file defines the grammar of a line without its line feed. A line is a header, a transition, or a line of a hide
+-- list (the labels to hide). The `aut` manual page describes the format, and this project restricts it further.
 use Rattle.std.specs.Prelude.{◌≡◌, ◌⊎◌, ℕ, ◌<◌, ◌^◌, Bool, false, ◌&&◌, ◌||◌, ◌==◌, nat_le, IsTrue, List, [], ◌∷◌, ◌++◌}
 use Rattle.std.specs.Prelude.{length, codes, decimal}
 use Rattle.std.specs.Char.{is_ascii_alphabetic, is_ascii_digit}
@@ -39,7 +39,7 @@ quoted a = codes "\"" ++ a ++ codes "\""
 
 -- `Label spelling a` holds if the bytes `spelling` are a written form of the label a. A label has at most two written
 -- forms. The first form is the label with a quotation mark before it and a quotation mark after it. The second form is
--- the label itself. This form is allowed only if `is_plain` is true for the label.
+-- the label itself. The second form is allowed only if `is_plain` is true for the label.
 abbrev pub Label : List ℕ → List ℕ → Type 0
 Label spelling a = (IsTrue (is_plain a) × (spelling ≡ a)) ⊎ (IsLabel a × (spelling ≡ quoted a))
 

@@ -8,10 +8,10 @@ use Rattle.lts.specs.Lts.{Triple, IsTriple, label_of, transition_of}
 use Rattle.autfmt.specs.declared.held.Held.{Held}
 use Rattle.autfmt.specs.declared.limits.TheConstants.{FILE_TRANSITIONS}
 
--- `AddsTriple old now s a t` holds if `now` is the result of adding one triple to the stored transitions `old`. There
--- are three conditions. First, the triple has the source s, the ID of the label a and the target t, and was appended to
--- the triples of `old`. Second, each label in the label table of `old` has the same ID in the label table of `now`.
--- Third, no label other than a was added to the label table.
+-- `AddsTriple old now s a t` holds if `now` is the result of adding one triple to the stored transitions `old`. All
+-- three of the following conditions must hold. First, the triple consists of the source s, the ID of the label a and
+-- the target t, and it was appended to the triples of `old`. Second, each label in the label table of `old` has the
+-- same ID in the label table of `now`. Third, no label other than a was added to the label table.
 pub record AddsTriple (old now : Held) (s : ℕ) (a : List ℕ) (t : ℕ) : Type 0 where
   pub number : ℕ
   pub numbered : IsLabelId now.labels number a
@@ -20,9 +20,10 @@ pub record AddsTriple (old now : Held) (s : ℕ) (a : List ℕ) (t : ℕ) : Type
   pub items : now.transitions ≡ old.transitions ++ (s, number, t) ∷ []
 
 -- `CanAdd held promised` holds if one more transition can be added to the stored transitions `held`. The argument
--- `promised` is the number of transitions that the header declares. There are three conditions. First, fewer than
--- `promised` transitions are stored. Second, `promised` is within the limit for files. Third, the label table has no
--- more labels than there are stored transitions.
+-- `promised` is the number of transitions that the header declares. All three of the following conditions must hold.
+-- First, fewer than `promised` transitions are stored. Second, `promised` does not exceed the largest number of
+-- transitions that is allowed for files. Third, the label table contains at most as many labels as there are stored
+-- transitions.
 pub record CanAdd (held : Held) (promised : ℕ) : Type 0 where
   pub fewer : length held.transitions < promised
   pub file : promised ≤ FILE_TRANSITIONS
@@ -33,10 +34,10 @@ pub record CanAdd (held : Held) (promised : ℕ) : Type 0 where
 abbrev pub AreShown : List (List ℕ) → (labels : List (List ℕ)) → Type 0
 AreShown H labels = (k : ℕ) → k < length labels → hidden_label H (text_of labels k) ≡ text_of labels k
 
--- `Holds H n held es` holds under three conditions. First, the triples stored in `held` denote the transitions in the
--- list es, after the labels in the list H were hidden. Second, these triples are transitions of a system with n states.
--- Third, the label table of `held` contains only labels of stored triples, and not more labels than there are stored
--- triples.
+-- `Holds H n held es` holds if all three of the following conditions hold. First, the triples stored in `held` denote
+-- the transitions in the list es, after the labels in the list H have been hidden. Second, these triples are
+-- transitions of a system with n states. Third, the label table of `held` contains only labels of stored triples, and
+-- at most as many labels as there are stored triples.
 pub record Holds (H : List (List ℕ)) (n : ℕ) (held : Held) (es : List Transition) : Type 0 where
   pub hidden : map (transition_of held.labels) held.transitions ≡ map (hidden_transition H) es
   pub among : All (IsTriple (length held.labels) n) held.transitions

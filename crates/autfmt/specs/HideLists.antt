@@ -1,4 +1,4 @@
--- A hide list has the labels to hide, one on each line. This file defines the labels of a hide list, and the first
+-- A hide list contains the labels to hide, one on each line. This file defines the labels of a hide list, and the first
 -- error of an incorrect hide list.
 use Rattle.std.specs.Prelude.{◌≡◌, ℕ, ◌+◌, ◌<◌, ◌≤◌, List, ◌∷◌, ◌++◌, length}
 use Rattle.std.specs.List.{AllZip}
@@ -13,13 +13,14 @@ use Rattle.autfmt.specs.Texts.{Lines, IsShort}
 abbrev pub Hides : List ℕ → List ℕ → Type 0
 Hides line a = IsShort line × HideLine line a
 
--- `HideReads text H` holds if the bytes `text` are a correct hide list, and H is the list of the labels on its lines,
--- in the order of the lines. A hide list has the labels to hide, one on each line.
+-- `HideReads text H` holds if the bytes `text` are a correct hide list with at most `MOST_LINES` lines, and H is the
+-- list of the labels on its lines, in the order of the lines. A hide list contains the labels to hide, one on each
+-- line.
 abbrev pub HideReads : List ℕ → List (List ℕ) → Type 0
 HideReads text H = (lines : List (List ℕ)) × Lines text lines × (length lines ≤ MOST_LINES) × AllZip Hides lines H
 
--- `HideFault k line fault` holds if `fault` is the error of line k of a hide list (the labels to hide). If several of
--- the errors below are possible, `fault` is the first of them, in the order of the equations.
+-- `HideFault k line fault` holds if `fault` is the error of line k of a hide list (the labels to hide). If the line has
+-- several of the errors below, `fault` is the first of these errors, in the order of the equations.
 abbrev pub HideFault : ℕ → List ℕ → Fault → Type 0
 HideFault k line TooManyHidden = MOST_LINES < k
 HideFault k line (LineTooLong j) = (j ≡ k) × (k ≤ MOST_LINES) × (LONGEST_LINE < length line)
@@ -27,7 +28,7 @@ HideFault k line (BadHide j) = (j ≡ k) × (k ≤ MOST_LINES) × IsShort line �
 HideFault k line _ = ⊥
 
 -- `FirstHideFault text fault` holds if `fault` is the first error of the hide list `text` (the labels to hide). This
--- means that a line of the hide list has this error, and that every earlier line is a correct label.
+-- means that some line of the hide list has this error, and that each earlier line is a correct line of a hide list.
 pub record FirstHideFault (text : List ℕ) (fault : Fault) : Type 0 where
   pub lines : List (List ℕ)
   pub line : List ℕ

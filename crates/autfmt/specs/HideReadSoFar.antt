@@ -12,9 +12,9 @@ pub record AddsLabel (old : List (List ℕ)) (a : List ℕ) (now : List (List �
   pub labels : (b : List ℕ) → Contains now b ↔ (Contains old b ⊎ (b ≡ a))
   pub longer : length now ≤ length old + 1
 
--- `HideReadSoFar given at H hidden` holds under three conditions. First, the line splitter (`Cutter`) in the state `at`
--- has divided the bytes `given` into lines. Second, H is the list of the labels on these lines. Third, the list
--- `hidden`, which the reader has stored, contains the same labels as H.
+-- `HideReadSoFar given at H hidden` holds if all three of the following conditions hold. First, the line splitter
+-- (`Cutter`) in the state `at` has divided the bytes `given` into lines. Second, H is the list of the labels on these
+-- lines. Third, the list `hidden`, which the reader has stored, contains the same labels as H.
 pub record HideReadSoFar (given : List ℕ) (at : Cutting) (H hidden : List (List ℕ)) : Type 0 where
   pub lines : List (List ℕ)
   pub cut : HasCut given lines at

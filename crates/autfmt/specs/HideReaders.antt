@@ -1,12 +1,12 @@
--- These definitions state which results reading a hide list (the labels to hide) may have: the labels of the list, or
--- an error in the list.
+-- These definitions state which results the function that reads a hide list (the labels to hide) may return: the labels
+-- of the list, or an error in the list.
 use Rattle.std.specs.Prelude.{◌↔◌, ℕ, List, Contains, ⊤}
 use Rattle.autfmt.specs.declared.fault.Fault.{Fault}
 use Rattle.autfmt.specs.declared.fault.Fault.TheVariants.{LineTooLong, BadHide, TooManyHidden}
 use Rattle.autfmt.specs.HideLists.{HideReads}
 
--- `IsHideFault fault` holds if `fault` is a possible error in the contents of a hide list (the labels to hide). It does
--- not hold for a failed allocation or for a failure to read the list.
+-- `IsHideFault fault` holds if `fault` is a possible error in the contents of a hide list (the labels to hide).
+-- `IsHideFault` does not hold for a failed allocation or for a failure to read the list.
 abbrev pub IsHideFault : Fault → Type 0
 IsHideFault (LineTooLong k) = ⊤
 IsHideFault (BadHide k) = ⊤

@@ -10,27 +10,28 @@ use Rattle.autfmt.specs.Grammar.{is_plain}
 use Rattle.autfmt.specs.Ranks.{Entry, texts, IsByBytes, AreRanks}
 use Rattle.autfmt.specs.Written.{written_transition}
 
--- `AreReady words` holds if the labels in `words` are ready to be written. There are three conditions. First, the
--- entries of `words` contain only valid labels. Second, the list `plain` states for each entry whether its label may be
--- written without quotation marks. Third, each item of the list `spelled` is correct for the label of the entry with
--- the same index (`AreSpelled`).
+-- `AreReady words` holds if the labels in `words` are ready to be written. All three of the following conditions must
+-- hold. First, the entries of `words` contain only valid labels. Second, the list `plain` states for each entry whether
+-- its label may be written without quotation marks. Third, each item of the list `spelled` stores no bytes, or it
+-- stores the written form of the label of the entry with the same index, followed by a comma and a space
+-- (`AreSpelled`).
 pub record AreReady (words : Words) : Type 0 where
   pub labels : All IsLabel (texts words.entries.items)
   pub plain : words.plain.items ≡ map is_plain (texts words.entries.items)
   pub spelled : AreSpelled (texts words.entries.items) words.spelled.items
 
--- `AreWords labels words` holds if `words` was correctly prepared for the label table `labels`. There are three
--- conditions. First, the entries of `words` are the labels of the table, sorted by their bytes. Second, the list
--- `ranks` has the position of each label in this order. Third, the lists `plain` and `spelled` are correct for the
--- entries (`AreReady`).
+-- `AreWords labels words` holds if `words` was correctly prepared for the label table `labels`. All three of the
+-- following conditions must hold. First, the entries of `words` are the labels of the table, sorted by their bytes.
+-- Second, the list `ranks` contains the position of each label in this order. Third, the labels in `words` are ready to
+-- be written (`AreReady`).
 pub record AreWords (labels : List (List ℕ)) (words : Words) : Type 0 where
   pub by_bytes : IsByBytes labels words.entries.items
   pub ranks : AreRanks words.entries.items words.ranks.items
   pub ready : AreReady words
 
--- `from_source source p` is the triple of a transition with the source `source`. The pair p has the rank of the label
--- and the target of the transition. (The rank is the position of the label when all labels are sorted by their bytes.)
--- The triple has the source, the rank and the target.
+-- `from_source source p` is the triple of a transition with the source `source`. The pair p contains the rank of the
+-- label and the target of the transition. (The rank is the position of the label when all labels are sorted by their
+-- bytes.) The triple consists of the source, the rank and the target.
 abbrev pub from_source : ℕ → ℕ × ℕ → Triple
 from_source source p = (source, p.0, p.1)
 

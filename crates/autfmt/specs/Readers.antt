@@ -7,9 +7,9 @@ use Rattle.autfmt.specs.declared.fault.Fault.TheVariants.{Device, Memory, BadHid
 use Rattle.autfmt.specs.Bounds.{Bounds}
 use Rattle.autfmt.specs.Texts.{Lines, GoodHeader, Reads}
 
--- `IsTextFault fault` holds if `fault` is a possible error in the contents of an input for a system. The other errors
--- are errors of hide lists (the labels to hide), failures of the source (the object from which the input is read) or of
--- the sink (the object to which the output is written), and failed allocations.
+-- `IsTextFault fault` holds if `fault` is a possible error in the contents of an input for a system. `IsTextFault` does
+-- not hold for the errors that only a hide list (the labels to hide) can have, for failed allocations, and for failures
+-- of the source (the object from which the input is read) or of the sink (the object to which the output is written).
 abbrev pub IsTextFault : Fault → Type 0
 IsTextFault Device = ⊥
 IsTextFault Memory = ⊥

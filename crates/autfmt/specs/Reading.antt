@@ -12,9 +12,9 @@ abbrev pub ◌>>=◌ : {A B : Type 0} → Option A → (A → Option B) → Opti
 (Some x) >>= f = f x
 None >>= f = None
 
--- `IsSeenAs view result read` relates the result of a Rust function to the result `read` of the corresponding function
--- in this file. It holds if `read` is the result of the Rust function (`result`) after its value was converted by
--- `view`.
+-- `IsSeenAs view result read` holds if the result `result` of a Rust function agrees with the result `read` of the
+-- corresponding function in this file. The two results agree if both are `None`, or if both are `Some` and the function
+-- `view` converts the value in `result` into the value in `read`.
 abbrev pub IsSeenAs : {X Y : Type 0} → (X → Y) → Option X → Option Y → Type 0
 IsSeenAs view (Some x) read = read ≡ Some (view x)
 IsSeenAs view None read = read ≡ None
@@ -28,8 +28,8 @@ unfoldable pub after_blanks : List ℕ → List ℕ
 after_blanks [] = []
 after_blanks (b ∷ bs) = if is_blank b then after_blanks bs else b ∷ bs
 
--- If the first byte of the list `bytes` is c, `past c bytes` are the bytes after this first byte. Otherwise, the result
--- is `None`.
+-- `past c bytes` are the bytes after the first byte of the list `bytes`, if this first byte is c. If `bytes` does not
+-- begin with c, the result is `None`.
 unfoldable pub past : ℕ → List ℕ → Option (List ℕ)
 past c [] = None
 past c (b ∷ bs) = if b == c then Some bs else None
@@ -39,15 +39,15 @@ past c (b ∷ bs) = if b == c then Some bs else None
 abbrev pub grows : ℕ → Bool
 grows v = nat_lt 0 v && nat_lt v (10 ^ 9)
 
--- `more_digits v bytes` reads the digits with which the list `bytes` begins as further digits of the number v. The
--- result is the whole number and the bytes after its last digit. The result is `None` if a digit follows a leading
--- zero, or if the number has more than ten digits.
+-- `more_digits v bytes` reads the digits at the beginning of the list `bytes`, which are further digits of the number
+-- v. The result consists of the whole number and the bytes after its last digit. The result is `None` if a digit
+-- follows a leading zero, or if the number has more than ten digits.
 unfoldable pub more_digits : ℕ → List ℕ → Option (ℕ × List ℕ)
 more_digits v [] = Some (v, [])
 more_digits v (b ∷ bs) =
     if is_ascii_digit b then (if grows v then more_digits (10 * v + (b - 48)) bs else None) else Some (v, b ∷ bs)
 
--- `number_at bytes` is the number with which the list `bytes` begins, together with the bytes after this number. The
+-- `number_at bytes` is the number at the beginning of the list `bytes`, together with the bytes after this number. The
 -- result is `None` if the bytes do not begin with a number.
 unfoldable pub number_at : List ℕ → Option (ℕ × List ℕ)
 number_at [] = None
@@ -61,9 +61,9 @@ is_word b = is_letter b || is_ascii_digit b
 abbrev pub word_len : List ℕ → ℕ
 word_len bytes = prefix_len is_word bytes
 
--- `plain_at bytes` is the plain label with which the list `bytes` begins, together with the bytes after this label. A
--- plain label is a label without quotation marks. It has at most 8000 letters, underscores and digits, and does not
--- begin with a digit. The result is `None` if the bytes do not begin with a plain label.
+-- `plain_at bytes` is the plain label at the beginning of the list `bytes`, together with the bytes after this label. A
+-- plain label is a label without quotation marks. A plain label consists of 1 to 8000 letters, underscores and digits,
+-- and does not begin with a digit. The result is `None` if the bytes do not begin with a plain label.
 unfoldable pub plain_at : List ℕ → Option (List ℕ × List ℕ)
 plain_at [] = None
 plain_at (b ∷ bs) =
@@ -83,14 +83,14 @@ is_label a = nat_le 1 (length a) && nat_le (length a) 8000 && list_all (λ b. na
 
 -- `quoted_at bytes` reads a label between quotation marks whose first quotation mark has already been read. The result
 -- is the label before the last quotation mark in the list `bytes`, together with the bytes after this mark. The result
--- is `None` if there is no quotation mark, or if the bytes before the last one are not a valid label.
+-- is `None` if there is no quotation mark, or if the bytes before the last quotation mark are not a valid label.
 unfoldable pub quoted_at : List ℕ → Option (List ℕ × List ℕ)
 quoted_at bytes = do
   i ← last_quote bytes
   if is_label (take i bytes) then Some (take i bytes, drop (i + 1) bytes) else None
 
--- `label_at bytes` is the label with which the list `bytes` begins, with or without quotation marks, together with the
--- bytes after this label. The result is `None` if the bytes do not begin with a label.
+-- `label_at bytes` is the label at the beginning of the list `bytes`, with or without quotation marks, together with
+-- the bytes after this label. The result is `None` if the bytes do not begin with a label.
 unfoldable pub label_at : List ℕ → Option (List ℕ × List ℕ)
 label_at [] = None
 label_at (b ∷ bs) = if b == 34 then quoted_at bs else plain_at (b ∷ bs)
@@ -99,7 +99,7 @@ label_at (b ∷ bs) = if b == 34 then quoted_at bs else plain_at (b ∷ bs)
 abbrev pub are_blanks : List ℕ → Bool
 are_blanks rest = list_all is_blank rest
 
--- If the line begins with `des`, `past_des line` are the bytes after `des`. Otherwise, the result is `None`.
+-- `past_des line` are the bytes after `des`, if the line begins with `des`. Otherwise, the result is `None`.
 unfoldable pub past_des : List ℕ → Option (List ℕ)
 past_des line = do
   rest ← past 100 line
@@ -115,8 +115,8 @@ number_then c line = do
   rest ← past c (after_blanks n.1)
   Some (n.0, rest)
 
--- If the line is a header, `header_at line` are the three numbers of this header: the first state, the number of
--- transitions and the number of states. Otherwise, the result is `None`.
+-- `header_at line` are the three numbers of the header on the line: the first state, the number of transitions and the
+-- number of states. If the line is not a header, the result is `None`.
 unfoldable pub header_at : List ℕ → Option (ℕ × ℕ × ℕ)
 header_at line = do
   rest ← past_des (after_blanks line)
@@ -135,8 +135,8 @@ ending_at rest = do
   t ← number_then 41 rest
   if are_blanks t.1 then Some (a.0, t.0) else None
 
--- If the line is a transition, `transition_at line` are the source, the label and the target of this transition.
--- Otherwise, the result is `None`.
+-- `transition_at line` are the source, the label and the target of the transition on the line. If the line is not a
+-- transition, the result is `None`.
 unfoldable pub transition_at : List ℕ → Option (ℕ × List ℕ × ℕ)
 transition_at line = do
   rest ← past 40 (after_blanks line)
@@ -144,8 +144,8 @@ transition_at line = do
   e ← ending_at (after_blanks s.1)
   Some (s.0, e.0, e.1)
 
--- If the line is a line of a hide list (the labels to hide), `hide_line_at line` is the label on this line. Otherwise,
--- the result is `None`.
+-- `hide_line_at line` is the label on a line of a hide list (the labels to hide). If the line is not a correct line of
+-- a hide list, the result is `None`.
 unfoldable pub hide_line_at : List ℕ → Option (List ℕ)
 hide_line_at line = do
   a ← label_at (after_blanks line)

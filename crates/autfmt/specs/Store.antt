@@ -2,10 +2,10 @@
 use Rattle.std.specs.Prelude.{ℕ, ◌-◌, List, ◌++◌, length, Option, option_map}
 use Rattle.autfmt.specs.Pieces.{capped}
 
--- The state of the sink (the object to which the output is written). The field `bytes` has the bytes that were written,
--- and `failures` is the number of failures. The field `count` is `None`, or the number of bytes that all calls together
--- can write: once the sink has this number of bytes, each further call fails. The field `most` is `None`, or the
--- greatest number of bytes that one call can write.
+-- `Store` is the state of a sink (the object to which the output is written) that stores its bytes in memory. The field
+-- `bytes` contains the bytes that were written, and `failures` is the number of failures. The field `count` is `None`,
+-- or the number of bytes that all calls together can write: once the sink contains this number of bytes, each further
+-- call fails. The field `most` is `None`, or the greatest number of bytes that one call can write.
 pub record Store : Type 0 where
   pub bytes : List ℕ
   pub count : Option ℕ

@@ -11,14 +11,13 @@ CountsFailure result failures = MatchResult result (λ _. failures ≡ 0) (λ _.
 
 -- `AppendsPrefix old new bs` holds if a prefix of the list bs was added to the bytes in the sink (the object to which
 -- the output is written). The arguments `old` and `new` are the bytes in the sink before and after the call. If the
--- contract of the sink does not state which bytes it contains, `old` is `None`, and the definition does not restrict
--- `new`.
+-- contract of the sink does not state which bytes the sink contains, `old` is `None`, and `new` can be any value.
 abbrev pub AppendsPrefix : Option (List ℕ) → Option (List ℕ) → List ℕ → Type 0
 AppendsPrefix old new bs = (front back : List ℕ) × (bs ≡ front ++ back) × Appends old new front
 
--- `PutsAll old new result bs` holds if `result` is correct for a call that writes the bytes bs to the sink (the object
--- to which the output is written). The arguments `old` and `new` are the bytes in the sink before and after the call.
--- If the call succeeded, it has added all bytes bs to the sink. If the call failed, it has added a prefix of these
--- bytes.
+-- `PutsAll old new result bs` holds if `result` is a correct result of a call that writes the bytes bs to the sink (the
+-- object to which the output is written). The arguments `old` and `new` are the bytes in the sink before and after the
+-- call. If the call succeeded, it has added all bytes bs to the sink. If the call failed, it has added a prefix of
+-- these bytes.
 abbrev pub PutsAll : {T E : Type 0} → Option (List ℕ) → Option (List ℕ) → Result T E → List ℕ → Type 0
 PutsAll old new result bs = MatchResult result (λ _. Appends old new bs) (λ _. AppendsPrefix old new bs)

@@ -2,20 +2,21 @@
 use Rattle.std.specs.Prelude.{ℕ, ◌-◌, min, List, length, drop, Option, option_map}
 use Rattle.autfmt.specs.Pieces.{capped}
 
--- The state of the source (the object from which the input is read). The field `rest` has the bytes that the source has
--- not yet returned, and `failures` is the number of failures. If the field `place` is a number, the source fails once
--- it has returned this number of further bytes. If the field `most` is a number, one call returns at most this number
--- of bytes.
+-- `Supply` is the state of a source (the object from which the input is read) whose bytes are in memory. The field
+-- `rest` contains the bytes that the source has not yet returned, and `failures` is the number of failures. If the
+-- field `place` is a number, the source fails once it has returned this number of further bytes. If the field `most` is
+-- a number, one call returns at most this number of bytes.
 pub record Supply : Type 0 where
   pub rest : List ℕ
   pub place : Option ℕ
   pub most : Option ℕ
   pub failures : ℕ
 
--- `next_count s n` is the number of bytes that a call takes from the source (the object from which the input is read)
--- in the state s if the buffer of the caller has room for n bytes. This number is the smallest of four numbers: n, the
--- number of bytes that the source has not yet returned, the number of bytes before the failure (`s.place`), and the
--- limit for one call (`s.most`). If `s.place` or `s.most` is `None`, it is not one of these numbers.
+-- `next_count s n` is the number of bytes that a source (the object from which the input is read) in the state s
+-- returns in the next call, if the buffer of the caller has room for n bytes. This number is the smallest of four
+-- numbers: n, the number of bytes that the source has not yet returned, the number of bytes before the failure
+-- (`s.place`), and the limit for one call (`s.most`). If `s.place` or `s.most` is `None`, only the other numbers are
+-- compared.
 abbrev pub next_count : Supply → ℕ → ℕ
 next_count s n = capped s.most (capped s.place (min n (length s.rest)))
 

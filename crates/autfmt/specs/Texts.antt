@@ -17,15 +17,14 @@ pub record Cuts (text : List ℕ) (ended : List (List ℕ)) (rest : List ℕ) : 
   pub lines : All IsOneLine ended
   pub one : IsOneLine rest
 
--- Suppose that `rest` has the bytes after the last line feed of a text. If `rest` is not empty, these bytes are the
--- last line of the text, and `last_line rest` is the list with this line as its only item. If `rest` is empty,
--- `last_line rest` is the empty list.
+-- `last_line rest` is the list of the lines after the last line feed of a text, where `rest` are the bytes after this
+-- line feed. If `rest` is not empty, `rest` is the only line in this list. If `rest` is empty, the list is empty.
 abbrev pub last_line : List ℕ → List (List ℕ)
 last_line [] = []
 last_line (b ∷ bs) = (b ∷ bs) ∷ []
 
--- `Lines text lines` holds if `lines` are the lines of the text. The lines are the parts of the text between its line
--- feeds, in their order. If the part after the last line feed is empty, it is not a line.
+-- `Lines text lines` holds if `lines` is the list of the lines of the text. The lines are the parts into which the line
+-- feeds divide the text, in their order. If the part after the last line feed is empty, it is not a line.
 abbrev pub Lines : List ℕ → List (List ℕ) → Type 0
 Lines text lines = (ended : List (List ℕ)) × (rest : List ℕ) × Cuts text ended rest × (lines ≡ ended ++ last_line rest)
 
@@ -34,8 +33,8 @@ abbrev pub IsShort : List ℕ → Type 0
 IsShort line = length line ≤ LONGEST_LINE
 
 -- `GoodHeader bounds line f m n` holds if the line is a correct header, which declares the first state f, m transitions
--- and n states. The line must not be too long, f must be less than n, and the numbers m and n must be within the limits
--- `bounds`.
+-- and n states. The line must not be too long. The first state f must be less than n, because the states of a system
+-- are the numbers less than the number of its states. The numbers m and n must be within the limits `bounds`.
 pub record GoodHeader (bounds : Bounds) (line : List ℕ) (f m n : ℕ) : Type 0 where
   pub short : IsShort line
   pub header : Header line f m n
@@ -47,14 +46,16 @@ pub record GoodHeader (bounds : Bounds) (line : List ℕ) (f m n : ℕ) : Type 0
 abbrev pub SpellsTransition : List ℕ → Transition → Type 0
 SpellsTransition line e = IsShort line × TransitionLine line e.source e.label e.target
 
--- `SpellsAmong n line e` holds if the line denotes the transition e, and the source and the target of e are less than
--- the number n.
+-- `SpellsAmong n line e` holds if the line denotes the transition e and has at most 8192 bytes (`SpellsTransition`),
+-- the label of e is valid, and the source and the target of e are states of a system with n states (that is, numbers
+-- less than n).
 abbrev pub SpellsAmong : ℕ → List ℕ → Transition → Type 0
 SpellsAmong n line e = SpellsTransition line e × IsAmong n e
 
--- `Reads bounds text A` holds if the text denotes the system A. The first line of the text is a header with the numbers
--- of A, which are within the limits `bounds`. Each further line denotes one transition of A, in the order in which A
--- lists its transitions. The system A must be well-formed (`IsSystem`).
+-- `Reads bounds text A` holds if the text denotes the system A. The first line of the text is a header, which declares
+-- the first state of A, the number of its transitions and the number of its states. These numbers are within the limits
+-- `bounds`. Each further line denotes one transition of A, in the order in which A lists its transitions. The system A
+-- must be well-formed (`IsSystem`).
 pub record Reads (bounds : Bounds) (text : List ℕ) (A : System) : Type 0 where
   pub header : List ℕ
   pub lines : List (List ℕ)

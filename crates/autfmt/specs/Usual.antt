@@ -6,8 +6,9 @@ use Rattle.std.specs.Str.Parse.{digits_value}
 use Rattle.autfmt.specs.Grammar.{Label, TransitionLine}
 use Rattle.autfmt.specs.Texts.{IsOneLine, IsShort}
 
--- `AreDigitsInFront bytes n v` holds under three conditions. First, the list `bytes` has at least eight items. Second,
--- it begins with exactly n digits, where n is between 1 and 7. Third, these digits denote the number v.
+-- `AreDigitsInFront bytes n v` holds if all three of the following conditions hold. First, the list `bytes` contains at
+-- least eight items. Second, the list begins with exactly n digits, where n is between 1 and 7. Third, these digits
+-- denote the number v.
 pub record AreDigitsInFront (bytes : List ℕ) (n v : ℕ) : Type 0 where
   pub room : 8 ≤ length bytes
   pub some : 0 < n

@@ -54,22 +54,22 @@ Text A text = (B : System) × IsInWrittenOrder A B × (text ≡ listed B)
 
 -- `GainsText A old new` holds if the text that is written for the system A was added to the bytes in the sink (the
 -- object to which the output is written). The arguments `old` and `new` are the bytes in the sink before and after the
--- call. If the contract of the sink does not state which bytes it contains, `old` is `None`, and the definition does
--- not restrict `new`.
+-- call. If the contract of the sink does not state which bytes the sink contains, `old` is `None`, and `new` can be any
+-- value.
 abbrev pub GainsText : System → Option (List ℕ) → Option (List ℕ) → Type 0
 GainsText A old new = (text : List ℕ) × Text A text × Appends old new text
 
 -- `GainsPrefix A old new` holds if a prefix of the text that is written for the system A was added to the bytes in the
 -- sink (the object to which the output is written). The arguments `old` and `new` are the bytes in the sink before and
--- after the call. If the contract of the sink does not state which bytes it contains, `old` is `None`, and the
--- definition does not restrict `new`.
+-- after the call. If the contract of the sink does not state which bytes the sink contains, `old` is `None`, and `new`
+-- can be any value.
 abbrev pub GainsPrefix : System → Option (List ℕ) → Option (List ℕ) → Type 0
 GainsPrefix A old new = (front back : List ℕ) × Text A (front ++ back) × Appends old new front
 
--- `WritesText A old new result` holds if `result` is correct for a call that writes the text of the system A to the
--- sink (the object to which the output is written). The arguments `old` and `new` are the bytes in the sink before and
--- after the call. If the call succeeded, it has written the whole text. If the call failed, it has written a prefix of
--- the text.
+-- `WritesText A old new result` holds if `result` is a correct result of a call that writes the text of the system A to
+-- the sink (the object to which the output is written). The arguments `old` and `new` are the bytes in the sink before
+-- and after the call. If the call succeeded, it has written the whole text. If the call failed, it has written a prefix
+-- of the text.
 abbrev pub WritesText : {T E : Type 0} → System → Option (List ℕ) → Option (List ℕ) → Result T E → Type 0
 WritesText A old new result = MatchResult result (λ _. GainsText A old new) (λ _. GainsPrefix A old new)
 

@@ -1,6 +1,6 @@
-//! The line splitter (`Cutter`) divides the bytes of a source (the object from which the input is read) into lines. It
-//! reads the bytes in chunks. If a line and its line feed lie within one chunk, the line is not copied. Otherwise, the
-//! parts of the line are copied to a buffer.
+//! The line splitter (`Cutter`) divides the bytes of a source (the object from which the input is read) into lines. The
+//! line splitter reads the bytes in chunks. If a line and its line feed lie within one chunk, the line is not copied.
+//! Otherwise, the parts of the line are copied to a buffer.
 ghost use Rattle.std.specs.Prelude.{◌≡◌, ℕ, ◌+◌, ◌<◌, List, [], ◌∷◌, ◌++◌, length, take, drop, true, false, IsTrue};
 ghost use Rattle.std.specs.Prelude.{Some, None, Ok, IfSome, IfNone};
 ghost use Rattle.std.specs.List.{slice_range};
@@ -23,7 +23,7 @@ const CHUNK: usize = 4096;
 /// The result of `Cutter::advance`, which splits off the next line.
 #[derive(Clone, Copy)]
 pub(crate) enum Step {
-    /// The next line was split off. It has at most 8192 bytes.
+    /// The next line was split off. This line has at most 8192 bytes.
     Line,
     /// The next line has more than 8192 bytes. The end of the line may not have been read yet.
     TooLong,
@@ -35,8 +35,9 @@ pub(crate) enum Step {
 /// read) until a line ends.
 #[derive(Clone, Copy)]
 pub(crate) enum Found {
-    /// The chunk, which begins with the bytes that were last read from the input, contains a line feed. The two numbers
-    /// are the index of the first line feed in the chunk and the number of bytes that were last read.
+    /// The bytes that were last read from the input contain a line feed. These bytes are stored at the beginning of the
+    /// chunk. The two numbers are the index of the first line feed in the chunk, and the number of the bytes that were
+    /// last read.
     Feed(usize, usize),
     /// The line has more than 8192 bytes.
     TooLong,
@@ -99,8 +100,8 @@ impl Cutter {
         }
     }
 
-    /// Returns the bytes that were read from the input but not yet divided into lines. They are the bytes of the chunk
-    /// after the line that was split off last.
+    /// Returns the bytes that were read from the input but not yet divided into lines. These bytes are stored in the
+    /// chunk at the indices i with from <= i < to.
     #[inline(always)]
     pub(crate) fn ahead(&self) -> &[u8]
         ensures ahead { result.now ≡ self.now.ahead }
@@ -110,8 +111,8 @@ impl Cutter {
     }
 
     /// Skips the next line. This line must end within the bytes that `ahead` returns, which were read from the input
-    /// but not yet divided into lines. The argument `left` is the number of these bytes that follow the line feed of
-    /// the line. The call does not change the result of `line`.
+    /// but not yet divided into lines. The argument `left` is the number of bytes that follow the line feed of this
+    /// line in the result of `ahead`. The call does not change the result of `line`.
     #[inline(always)]
     pub(crate) fn pass(&mut self, left: usize)
         requires { left < length self.old.ahead }
@@ -145,8 +146,8 @@ impl Cutter {
         self.put_together(r)
     }
 
-    /// Splits off the next line in the case that the end of this line has not been read yet. The function reads further
-    /// chunks of bytes from the source (the object from which the input is read), and copies the line to the buffer.
+    /// Splits off the next line if the end of this line has not been read yet. The function reads further chunks of
+    /// bytes from the source (the object from which the input is read), and copies the line to the buffer.
     fn put_together<R: Source>(&mut self, r: &mut R) -> Result<Step, Broken>
         requires open { self.old.over ≡ false }
         requires one { IsOneLine self.old.ahead }
@@ -177,8 +178,9 @@ impl Cutter {
         }
     }
 
-    /// Returns whether the input ends after the lines that were split off so far. If all bytes that were read are
-    /// divided into lines, the function first tries to read further bytes from the input.
+    /// Returns whether the input ends after the lines that were split off so far. If all bytes that were read have been
+    /// divided into lines, the function tries to read further bytes from the input. In this case, the result of `line`
+    /// may change.
     pub(crate) fn is_at_end<R: Source>(&mut self, r: &mut R) -> Result<bool, Broken>
         requires { R.failures r.old ≡ 0 }
         ensures look { (got : List ℕ) × Consumes (R.rest r.old) (R.rest r.new) got ×

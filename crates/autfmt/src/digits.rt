@@ -1,4 +1,4 @@
-//! This module converts up to seven leading digits to a number. All digits are in one word of 64 bits, and are
+//! This module converts up to seven leading digits to a number. All digits are stored in one word of 64 bits, and are
 //! converted at the same time. The module `core::dec2flt` uses the same steps in a loop for any number of digits. The
 //! sources and targets of transitions are short numbers, and for such numbers this module is faster.
 ghost use Rattle.std.specs.Prelude.{◌≡◌, ℕ, ◌-◌, ◌*◌, ◌%◌, ◌^◌, ◌<◌, ◌≤◌, List, length, take, nat_le, IfSome};
@@ -10,7 +10,7 @@ ghost use lib.Lanes.{number_l};
 
 use std::simd::prelude::*;
 
-/// Returns the number of digits with which the bytes begin, and the number that these digits denote. The result is
+/// Returns the number of digits at the beginning of the bytes, and the number that these digits denote. The result is
 /// `None` in three cases: the bytes do not begin with a digit, they begin with more than seven digits, or there are
 /// fewer than eight bytes.
 #[inline(always)]
@@ -42,9 +42,9 @@ pub(crate) fn word_in_front(bytes: &[u8]) -> u64
     u64x1::from_le_bytes(u8x8::from_slice(bytes))[0]
 }
 
-/// Returns a word that marks the bytes of `word` that are 10 or more. In the result, the highest bit of each such byte
-/// is set, and all other bits are 0. The function clears the highest bit of each byte before it adds a constant to the
-/// byte. Therefore no addition carries into the next byte.
+/// Returns a word that marks each byte of `word` whose value is at least 10. In the result, the highest bit of each
+/// such byte is set, and all other bits are 0. The function clears the highest bit of each byte before it adds a
+/// constant to the byte. Therefore no addition carries into the next byte.
 #[inline(always)]
 fn flags_from_ten(word: u64) -> u64
     ensures { (byte : ℕ → ℕ) → ((k : ℕ) → byte k < 256) → word ≡ digits_from byte 0 8

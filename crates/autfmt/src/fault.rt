@@ -14,7 +14,7 @@ pub enum Fault {
     /// Line 1 is not a header, or the input has no line.
     #[error("bad header")]
     BadHeader,
-    /// The first state is not less than the number of states. The number of states is at least 1.
+    /// The first state is not less than the number of states, although the number of states is at least 1.
     #[error("first state out of range")]
     FirstState,
     /// The header declares no states.
@@ -41,7 +41,7 @@ pub enum Fault {
     /// The line with this number follows the last transition that the header declares.
     #[error("line {0}: text after the last transition")]
     ExtraText(u32),
-    /// The input ends after this number of transitions, but the header declares more transitions.
+    /// The input ends after this number of transitions, although the header declares more transitions.
     #[error("only {0} transitions found")]
     MissingEdges(u32),
     /// A source (the object from which the input is read) or a sink (the object to which the output is written) has

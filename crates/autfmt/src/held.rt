@@ -1,5 +1,5 @@
-//! This module stores the transitions that a reader has read so far. The labels are in a label table, and each
-//! transition is a triple of its source, the ID of its label and its target.
+//! This module stores the transitions that a reader has read so far. The labels are stored in a label table. Each
+//! transition is stored as a triple of its source, the ID of its label and its target.
 ghost use Rattle.std.specs.Prelude.{◌≡◌, ◌+◌, ◌<◌, ◌≤◌, ◌↔◌, [], length, IsTrue, IsSome, IfSome, IfNone, IfOk, OnOk};
 ghost use Rattle.std.specs.Prelude.{MatchResult};
 ghost use Rattle.theory.specs.System.{IsLabel, hidden_label};
@@ -16,22 +16,21 @@ use std::alloc::Global;
 const GUESSES: usize = 256;
 
 /// The hash function `guess_slot` reads the first eight bytes of a label as one number of 64 bits, and multiplies this
-/// number by this factor. It does so only for labels with at least eight bytes. The factor is odd, and its bits have no
-/// regular pattern.
+/// number by the factor `FIRST_WEIGHT`. The function does so only for labels with at least eight bytes. The factor is
+/// odd, and its bits have no regular pattern.
 const FIRST_WEIGHT: u64 = 0x9E37_79B9_7F4A_7C15;
 
 /// The hash function `guess_slot` reads the bytes at the indices 8 to 15 of a label as one number of 64 bits, and
-/// multiplies this number by this factor. If the label has 8 to 15 bytes, the function reads the last eight bytes
-/// instead.
+/// multiplies this number by the factor `SECOND_WEIGHT`. If the label has 8 to 15 bytes, the function reads the last
+/// eight bytes instead.
 const SECOND_WEIGHT: u64 = 0x9FB2_1C65_1E98_DF25;
 
-/// This constant is the factor in the hash function `guess_slot`. The function reads eight bytes in the middle of a
-/// label as one number of 64 bits, and multiplies this number by the factor. It does so only for labels with at least
-/// eight bytes.
+/// The hash function `guess_slot` reads eight bytes in the middle of a label as one number of 64 bits, and multiplies
+/// this number by the factor `MIDDLE_WEIGHT`. The function does so only for labels with at least eight bytes.
 const MIDDLE_WEIGHT: u64 = 0xA24B_AED4_963E_E407;
 
 /// The hash function `guess_slot` reads the last eight bytes of a label as one number of 64 bits, and multiplies this
-/// number by this factor. It does so only for labels with at least eight bytes.
+/// number by the factor `LAST_WEIGHT`. The function does so only for labels with at least eight bytes.
 const LAST_WEIGHT: u64 = 0xD1B5_4A32_D192_ED03;
 
 /// The transitions that were read so far, with their labels.
@@ -42,15 +41,18 @@ pub(crate) struct Held {
     guesses: Guesses,
 }
 
-/// A cache for the IDs of labels. It consists of two tables with the same number of slots (entries). One table is used
-/// for the hidden labels, and the other for all other labels. A hash of a label determines its slot. In each slot, a
-/// table stores the ID of the last label with this slot for which the table was used. If the next label with this slot
-/// is the same label, its ID is found without a search.
+/// A cache for the IDs of labels. The cache consists of two tables with the same number of slots (entries). One table
+/// is used for the hidden labels, and the other for all other labels. A hash of a label determines its slot. Each slot
+/// of the table for hidden labels stores the ID of the last hidden label with this slot. Each slot of the other table
+/// stores the ID of the last label with this slot that is not hidden. If the next label with the same slot is the same
+/// label, the ID of this label is found without a search.
 #[derive(Drop)]
 struct Guesses {
-    /// This table is used for labels that are not hidden. Its entries are IDs of labels in the label table.
+    /// This table is used for labels that are not hidden. The entries of this table are IDs of labels in the label
+    /// table.
     shown: [u32; GUESSES],
-    /// This table is used for hidden labels. Its entries are IDs of labels in the hide list (the labels to hide).
+    /// This table is used for hidden labels. The entries of this table are IDs of labels in the hide list (the labels
+    /// to hide).
     hidden: [u32; GUESSES],
 }
 
@@ -70,9 +72,9 @@ impl Held {
         }
     }
 
-    /// Adds a transition. The argument `read` has its source, its label and its target. The label is the label in the
-    /// input, before hiding. The argument `promised` is the number of transitions that the header declares, and `h` has
-    /// the labels to hide.
+    /// Adds a transition. The argument `read` consists of the source, the label and the target of the transition that
+    /// is to be added. The label is given as it is in the input, before hiding. The argument `promised` is the number
+    /// of transitions that the header declares, and `h` contains the labels to hide.
     pub(crate) fn add(
         &mut self,
         read: (u32, &[u8], u32),
@@ -91,7 +93,7 @@ impl Held {
         Ok(())
     }
 
-    /// Adds a transition as `add` does and returns true, if the label of the transition is valid. Otherwise, adds
+    /// If the label of the transition is valid, adds the transition as `add` does and returns true. Otherwise, adds
     /// nothing and returns false.
     #[inline(always)]
     pub(crate) fn add_if_label(
@@ -125,10 +127,10 @@ impl Held {
 /// label `i` instead. If the table does not contain the label yet, the function appends the label to the table. If the
 /// bytes are not a valid label, the result is `None`.
 ///
-/// The function first looks up an ID in the cache `Guesses`, which stores one ID for all labels with the same hash. If
-/// this is the ID of the label, the label is already in the table, and the function does not search the table. In this
-/// case, the function also does not check whether the label is valid or hidden, because each label in the table is
-/// valid, and hiding does not change it.
+/// The function first looks up an ID in the table `shown` of the cache `Guesses`. This table stores one ID for all
+/// labels with the same hash. If the cached ID is the ID of the label, the label is already in the label table, and the
+/// function does not search this table. In this case, the function need not check whether the label is valid or hidden,
+/// because each label in the label table is valid, and is not changed by hiding.
 #[inline(always)]
 fn label_id(
     labels: &mut Labels,
@@ -167,10 +169,11 @@ fn label_id(
 }
 
 /// Returns the slot of a label, which is its index in the two tables of `Guesses`. These tables cache the IDs of
-/// labels. Different labels should have different slots. The slot of a label with eight bytes or more depends on its
-/// first 16 bytes, on eight bytes in the middle and on the last eight bytes. The slot of a shorter label depends on its
-/// first byte and its last two bytes. Without the first byte, the labels `PUT !0` and `GET !0` would share a slot. For
-/// systems with such labels, reading would then take 3 to 6 % longer.
+/// labels. Different labels should have different slots. The slot of a label of at least 16 bytes depends on its first
+/// 16 bytes, on eight bytes in the middle and on its last eight bytes. The slot of a label of 8 to 15 bytes depends on
+/// all of its bytes. The slot of a shorter label depends on its first byte and on its last two bytes. Without the first
+/// byte, the labels `PUT !0` and `GET !0` would share a slot. For systems with such labels, reading would then take 3
+/// to 6 % longer.
 #[inline(always)]
 fn guess_slot(label: &[u8]) -> usize
     ensures { result < GUESSES }

@@ -43,8 +43,9 @@ impl Hidden {
         Ok(())
     }
 
-    /// Returns the ID of a label in this list, or `None` if the label is not in the list. The argument `guess` is an ID
-    /// that the label may have. If `guess` is the ID of the label, no search is necessary.
+    /// Returns the ID of a label in this list, or `None` if the label is not in the list. The argument `guess` is the
+    /// ID that the caller expects the label to have. If `guess` is the ID of the label, the function does not search
+    /// the list.
     pub(crate) fn find(&self, label: &[u8], guess: u32) -> Option<u32>
         ensures number { MatchOption result (¬ Contains self.now label.now)
             (λ k. IsLabelId self.now k label.now) }

@@ -1,4 +1,4 @@
-//! This module reads a hide list, which has the labels to hide, one on each line.
+//! This module reads a hide list, which contains the labels to hide, one on each line.
 ghost use Rattle.std.specs.Prelude.{◌≡◌, ◌↔◌, ℕ, ◌+◌, ◌<◌, ◌≤◌, List, [], ◌∷◌, ◌++◌, length, false, IfSome, Ok, Err};
 ghost use Rattle.std.specs.Prelude.{IfOk, IfErr, OnOk, MatchResult, MatchBool};
 ghost use Rattle.std.specs.Io.KnownBytes.{Consumes, IsAtEnd};
@@ -17,8 +17,8 @@ use crate::limits::MOST_LINES;
 use crate::source::Source;
 use std::alloc::Global;
 
-/// Reads a hide list, which has the labels to hide, one on each line. The hide list may have at most 100,000 lines. On
-/// success, the source (the object from which the hide list is read) is at its end.
+/// Reads a hide list, which contains the labels to hide, one on each line. The hide list may have at most 100,000
+/// lines. On success, the source (the object from which the hide list is read) is at its end.
 ///
 /// # Errors
 ///
@@ -31,12 +31,12 @@ use std::alloc::Global;
 pub fn read_hidden<R: Source>(alloc: Global, r: &mut R) -> Result<Hidden, Fault>
     requires { R.failures r.old ≡ 0 }
 
-    // This clause states what success means and when each error is returned. It is about the bytes that were read from
-    // the source (the object from which the hide list is read).
+    // This clause states what the call guarantees if it succeeds, and when each error is returned. The clause is about
+    // the bytes that were read from the source (the object from which the hide list is read).
     ensures outcome { HideAnswers (R.rest r.old) (R.rest r.new) (R.failures r.new) result }
 
-    // If the contract of the source (the object from which the hide list is read) states which bytes the source will
-    // return, these clauses relate the result to the whole hide list.
+    // A source is the object from which the hide list is read. If the contract of the source states which bytes are
+    // still to be read from it, these clauses relate the result to the whole hide list.
     ensures labels { IfSome (R.rest r.old) (λ text. IfOk result (HidesAs text)) }
     ensures fault { IfSome (R.rest r.old)
         (λ text. IfErr result (λ f. IsHideFault f → FirstHideFault text f)) }

@@ -20,14 +20,14 @@
 //! `hide_reader` makes a list of labels from the bytes of a source. The module `writer` writes a system to a sink (the
 //! object to which the output is written).
 //!
-//! The contracts of the readers are about all bytes that the source has returned. They do not depend on how many bytes
-//! the source has returned in each call (`specs/Outcomes`). A reader reports an error as soon as no further bytes could
-//! change this error (`specs/Faults`).
+//! The contracts of the readers are about all bytes that the source has returned. The contracts do not depend on how
+//! many bytes the source has returned in each call (`specs/Outcomes`). A reader reports an error as soon as no further
+//! bytes could change this error (`specs/Faults`).
 //!
 //! The modules whose names end in `laws` contain functions with empty bodies. The contract of each of these functions
 //! states theorems. The main theorems are the following. Each line can be read in at most one way, and so can each
-//! input. For each system, there is at most one text that may be written for it. If a reader reads the text that was
-//! written for a system, it returns this system.
+//! input. For each system, there is at most one text that may be written for it. If a reader successfully reads the
+//! text that was written for a system, the reader returns this system again, up to the order of its transitions.
 //!
 //! If a function of this crate returns the error `Memory`, there was no memory for a vector or a table that had to
 //! grow.

@@ -57,8 +57,8 @@ impl Limits {
         }
     }
 
-    /// This function does nothing when it runs. Its contract states that these limits on states and transitions do not
-    /// exceed the limits for files.
+    /// This function does nothing when it runs. The contract of this function states that the limits allow at least one
+    /// state, and do not exceed the limits for files.
     pub fn invariants(&self)
         ensures { IsWithinFile self.now }
     {

@@ -1,5 +1,5 @@
-//! This module has theorems about lines of an input. Each theorem is stated as the contract of a function with an empty
-//! body.
+//! This module contains theorems about lines of an input. Each theorem is stated as the contract of a function with an
+//! empty body.
 
 ghost use Rattle.std.specs.Prelude.{◌≡◌, ℕ, List};
 ghost use Rattle.autfmt.specs.Grammar.{Header, TransitionLine, HideLine};

@@ -1,5 +1,5 @@
-//! This module reads a system from an input. The input must have a header, and then exactly as many transitions as the
-//! header declares.
+//! This module reads a system from an input. The input must consist of a header, followed by exactly as many
+//! transitions as the header declares.
 ghost use Rattle.std.specs.Prelude.{◌≡◌, ◌↔◌, ℕ, ◌+◌, ◌<◌, ◌≤◌, List, [], ◌∷◌, ◌++◌, length, false, IsTrue, IfSome};
 ghost use Rattle.std.specs.Prelude.{Err, IfOk, IfErr, OnOk, MatchResult};
 ghost use Rattle.std.specs.Io.KnownBytes.{Consumes, IsAtEnd};
@@ -25,28 +25,29 @@ use crate::usual::transition_in_front;
 use lts::{Lts, Memory, Meter};
 use std::alloc::Global;
 
-/// Reads a whole input as a system. The input must have a header of three numbers, and then exactly as many transitions
-/// as the header declares. The numbers in the header must not exceed the limits `lim`. On success, the source (the
-/// object from which the input is read) is at its end, and the label table of the system contains exactly the labels of
-/// the transitions.
+/// Reads a whole input as a system. The input must consist of a header with three numbers, followed by exactly as many
+/// transitions as the header declares. The numbers in the header must not exceed the limits `lim`. If the call
+/// succeeds, the source (the object from which the input is read) is at its end, and the label table of the system
+/// contains exactly the labels of the transitions.
 ///
 /// # Errors
 ///
-/// - `BadHeader` to `MissingEdges`: the first error of the input. The error is returned as soon as no further bytes
-///   could change it. The contract does not state how many bytes after the error are read from the source.
+/// - One of the errors from `BadHeader` to `MissingEdges`: this is the first error of the input. The error is returned
+///   as soon as no further bytes could change it. The contract does not state how many bytes after the error are read
+///   from the source.
 /// - `Device`: the source failed, and the bytes that it had returned before are not enough to show which error is
 ///   the first error of the input.
 /// - `Memory`: an allocation failed. This error can be returned only if line 1 is a correct header.
 pub fn read<M: Meter, R: Source>(alloc: Global, r: &mut R, lim: &Limits) -> Result<Lts<M>, Fault>
     requires { R.failures r.old ≡ 0 }
 
-    // This clause states what success means and when each error is returned. It is about the bytes that were read from
-    // the source (the object from which the input is read).
+    // This clause states what the call guarantees if it succeeds, and when each error is returned. The clause is about
+    // the bytes that were read from the source (the object from which the input is read).
     ensures outcome { AnswersRead lim.now [] (R.rest r.old) (R.rest r.new)
         (R.failures r.new) result }
 
-    // If the contract of the source (the object from which the input is read) states which bytes the source will
-    // return, these clauses relate the result to the whole input.
+    // A source is the object from which the input is read. If the contract of the source states which bytes are still
+    // to be read from it, these clauses relate the result to the whole input.
     ensures system { IfSome (R.rest r.old) (λ text. IfOk result (ReadsAs lim.now text [])) }
     ensures fault { IfSome (R.rest r.old)
         (λ text. IfErr result (λ f. IsTextFault f → FirstFault lim.now text f)) }
@@ -71,13 +72,13 @@ pub fn read_hiding<M: Meter, R: Source>(
 ) -> Result<Lts<M>, Fault>
     requires { R.failures r.old ≡ 0 }
 
-    // This clause states what success means and when each error is returned. It is about the bytes that were read from
-    // the source (the object from which the input is read).
+    // This clause states what the call guarantees if it succeeds, and when each error is returned. The clause is about
+    // the bytes that were read from the source (the object from which the input is read).
     ensures outcome { AnswersRead lim.now h.now (R.rest r.old) (R.rest r.new)
         (R.failures r.new) result }
 
-    // If the contract of the source (the object from which the input is read) states which bytes the source will
-    // return, these clauses relate the result to the whole input.
+    // A source is the object from which the input is read. If the contract of the source states which bytes are still
+    // to be read from it, these clauses relate the result to the whole input.
     ensures system { IfSome (R.rest r.old) (λ text. IfOk result (ReadsAs lim.now text h.now)) }
     ensures fault { IfSome (R.rest r.old)
         (λ text. IfErr result (λ f. IsTextFault f → FirstFault lim.now text f)) }
@@ -184,10 +185,10 @@ fn read_transitions<R: Source>(
 }
 
 /// Tries to read the next line in a fast way. This can succeed only if the line is a correct transition in one of its
-/// most common written forms. The whole line must also be among the bytes that were last read from the source (the
-/// object from which the input is read). On success, the function stores the transition and returns true. If the line
-/// cannot be read in this way, the function changes nothing and returns false. With this function, reading is twice as
-/// fast as without it.
+/// most common written forms. In addition, the bytes of the whole line must be among the bytes that were last read from
+/// the source (the object from which the input is read). On success, the function stores the transition and returns
+/// true. If the line cannot be read in this way, the function changes nothing and returns false. With this function,
+/// reading is twice as fast as without it.
 #[inline(always)]
 fn read_usual(
     cutter: &mut Cutter,
@@ -221,8 +222,9 @@ fn read_usual(
     Ok(true)
 }
 
-/// Reads the transition on the next line, and stores it. The transition may have any form that the format allows. The
-/// label may be between quotation marks or not, and there may be blanks between the parts of the line.
+/// Reads the transition on the next line, and stores it. The transition may have any written form that the format
+/// allows: the label may be written with or without quotation marks, and there may be blanks between the parts of the
+/// line.
 #[inline(never)]
 fn read_transition<R: Source>(
     cutter: &mut Cutter,

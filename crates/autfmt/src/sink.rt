@@ -1,5 +1,5 @@
-//! A sink is the object to which the output is written. This module has a trait for sinks, a sink in memory, and a sink
-//! that wraps any writer of the standard library.
+//! A sink is the object to which the output is written. This module defines a trait for sinks, a sink in memory, and a
+//! sink that wraps any writer of the standard library.
 ghost use Rattle.std.specs.Prelude.{◌≡◌, ℕ, ◌<◌, ◌≤◌, ◌↔◌, List, [], length, take, None, Some, IfSome, IsErr, IfOk};
 ghost use Rattle.std.specs.Prelude.{OnOk, OnErr, if◌then◌else◌, Option};
 ghost use Rattle.std.specs.Io.{WritesAtMost};
@@ -13,8 +13,8 @@ use std::alloc::Global;
 use std::io::Write;
 use std::marker::Model;
 
-/// A sink: the object to which the output is written. It accepts the bytes of the output in chunks. After its first
-/// failure, a sink must not be used again.
+/// A sink is the object to which the output is written. The sink accepts the bytes of the output in chunks. After its
+/// first failure, a sink must not be used again.
 pub trait Sink {
     // The bytes that were written to the sink (the object to which the output is written). The value is `None` if the
     // contract of the sink does not state these bytes.
@@ -28,8 +28,8 @@ pub trait Sink {
     ///
     /// # Errors
     ///
-    /// If the sink fails, the result is `Broken`. In this case, nothing was written. The number of failures is 1 from
-    /// then on (`failures`).
+    /// If the sink fails, the result is `Broken`. In this case, nothing was written. After this error, the number of
+    /// failures is 1 (`failures`).
     fn put(&mut self, b: &[u8]) -> Result<usize, Broken>
         requires bytes { 0 < length b.now }
         requires sound { failures self.old ≡ 0 }
@@ -43,7 +43,7 @@ pub trait Sink {
     ///
     /// # Errors
     ///
-    /// If the sink fails, the result is `Broken`. The number of failures is 1 from then on (`failures`).
+    /// If the sink fails, the result is `Broken`. After this error, the number of failures is 1 (`failures`).
     fn finish(&mut self) -> Result<(), Broken>
         requires { failures self.old ≡ 0 }
         ensures bytes { Keeps (written self.old) (written self.new) }
@@ -56,7 +56,7 @@ pub trait Sink {
 }
 
 /// A sink (the object to which the output is written) that stores its bytes in memory. A caller can choose the number
-/// of bytes at which the sink fails.
+/// of bytes after which the sink fails.
 #[derive(Drop)]
 pub struct VecSink {
     bytes: Vec<u8>,
@@ -81,8 +81,8 @@ impl Model for VecSink {
 
 impl VecSink {
     /// Makes an empty sink (the object to which the output is written) that accepts up to `count` bytes. Once the sink
-    /// has `count` bytes, the next call of `put` or `finish` fails. If `count` is `None`, the sink accepts any number
-    /// of bytes.
+    /// contains `count` bytes, the next call of `put` or `finish` fails. If `count` is `None`, the sink accepts any
+    /// number of bytes, unless an allocation fails.
     pub fn new(alloc: Global, count: Option<usize>) -> VecSink
         ensures { result ≡ record { bytes = []; count = count; most = None; failures = 0 } }
     {

@@ -1,5 +1,5 @@
-//! A source is the object from which the input is read. This module has a trait for sources, a source in memory, and a
-//! source that wraps any reader of the standard library.
+//! A source is the object from which the input is read. This module defines a trait for sources, a source in memory,
+//! and a source that wraps any reader of the standard library.
 ghost use Rattle.std.specs.Prelude.{◌≡◌, ℕ, ◌<◌, ◌≤◌, ◌↔◌, List, length, None, Some, IfSome, IsErr, IfOk, OnErr};
 ghost use Rattle.std.specs.Prelude.{if◌then◌else◌, Option};
 ghost use Rattle.std.specs.Io.{ReadsAtMost};
@@ -12,11 +12,11 @@ use crate::stream::{Broken, at_most};
 use std::io::Read;
 use std::marker::Model;
 
-/// A source: the object from which the input is read. It returns the bytes of the input in chunks. After its first
-/// failure, a source must not be used again.
+/// A source is the object from which the input is read. The source returns the bytes of the input in chunks. After its
+/// first failure, a source must not be used again.
 pub trait Source {
-    // The bytes that the source (the object from which the input is read) will still return. The value is `None` if the
-    // contract of the source does not state these bytes.
+    // The bytes that are still to be read from the source (the object from which the input is read). The value is
+    // `None` if the contract of the source does not state these bytes.
     ghost rest: { Self → Option (List ℕ) };
 
     // The number of failures of the source (the object from which the input is read).
@@ -28,7 +28,7 @@ pub trait Source {
     /// # Errors
     ///
     /// If the source fails, the result is `Broken`. In this case, the source returns no bytes and keeps all bytes that
-    /// it has not yet returned. The number of failures is 1 from then on (`failures`).
+    /// it has not yet returned. After this error, the number of failures is 1 (`failures`).
     fn take(&mut self, buf: &mut [u8]) -> Result<usize, Broken>
         requires room { 0 < length buf.old }
         requires sound { failures self.old ≡ 0 }
@@ -42,8 +42,8 @@ pub trait Source {
         ensures range { result ≤ 1 };
 }
 
-/// A source (the object from which the input is read) whose bytes are in memory. A caller can choose the index at which
-/// the source fails. This type is meant for tests and for inputs that are already in memory.
+/// A source (the object from which the input is read) whose bytes are in memory. A caller can choose the number of
+/// bytes after which the source fails. This type is meant for tests and for inputs that are already in memory.
 #[derive(Drop)]
 pub struct SliceSource<'a> {
     rest: &'a [u8],
@@ -67,8 +67,8 @@ impl<'a> Model for SliceSource<'a> {
 
 impl<'a> SliceSource<'a> {
     /// Makes a source (the object from which the input is read) with the bytes of `b`. If `place` is a number, the
-    /// source returns the bytes before this index of `b` and then fails. If `place` is `None` or greater than the
-    /// length of `b`, the source never fails.
+    /// source returns the bytes of `b` before the index `place`, and then fails. If `place` is `None` or greater than
+    /// the length of `b`, the source never fails.
     pub fn new(b: &'a [u8], place: Option<usize>) -> SliceSource<'a>
         ensures { result ≡ record { rest = b.now; place = place; most = None; failures = 0 } }
     {
@@ -145,8 +145,8 @@ impl<R> Model for FromRead<R> {
 }
 
 impl<R: Read> FromRead<R> {
-    /// Makes a source that takes its bytes from `reader`. If the contract of `reader` states which bytes the reader
-    /// will still return, then the contract of the source states this too.
+    /// Makes a source that takes its bytes from `reader`. If the contract of `reader` states which bytes are still to
+    /// be read from it, then the same bytes are still to be read from the source.
     pub fn new(reader: R) -> FromRead<R>
         ensures { result ≡ record { inner = reader; failures = 0 } }
     {

@@ -12,12 +12,12 @@ use itoa::{Buffer, write_digits};
 use lts::LONGEST_LABEL;
 use std::marker::Model;
 
-/// The size of an array for the front of a line. The front has all bytes before the label: a parenthesis, a number of
-/// at most ten digits, a comma and a space.
+/// The size of an array for the front of a line. The front consists of all bytes before the label: a parenthesis, a
+/// number of at most ten digits, a comma and a space.
 const FRONT: usize = 13;
 
 /// The size of an array for the written form of a short label (at most 28 bytes), followed by a comma and a space. The
-/// written form may have two quotation marks.
+/// written form may contain two quotation marks in addition.
 const SHORT: usize = 32;
 
 /// The largest number of digits that a target can have.
@@ -46,7 +46,8 @@ pub(crate) fn append_header(buffer: &mut [u8], first: u32, transitions: usize, s
     append(buffer, end, b")\n")
 }
 
-/// The front of a line: all bytes before its label. The front is made once for all transitions with the same source.
+/// The front of a line consists of all bytes before the label. The front is made once for all transitions with the same
+/// source.
 #[derive(Drop)]
 pub(crate) struct Front {
     source: u32,
@@ -66,8 +67,8 @@ impl Model for Front {
 }
 
 impl Front {
-    /// Makes the front of the lines of all transitions with the source `source`. The front has all bytes before the
-    /// label.
+    /// Makes the front of the lines of all transitions with the source `source`. The front of a line consists of all
+    /// bytes before the label.
     pub fn new(source: u32) -> Front
         ensures { result ≡ source }
     {
@@ -92,8 +93,8 @@ impl Front {
     }
 }
 
-/// The written form of a label of at most 28 bytes, followed by a comma and a space. They are the first `len` bytes of
-/// the array `bytes`. If a label is longer, no bytes are stored for it, and `len` is 0.
+/// The written form of a label of at most 28 bytes, followed by a comma and a space. These bytes are the first `len`
+/// bytes of the array `bytes`. If a label is longer, no bytes are stored for it, and `len` is 0.
 #[derive(Clone, Copy)]
 pub(crate) struct Spelled {
     bytes: [u8; SHORT],

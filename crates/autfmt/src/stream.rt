@@ -1,6 +1,6 @@
-//! This module has definitions that both sources and sinks use. A source is the object from which the input is read,
-//! and a sink is the object to which the output is written. The definitions are the error of a source or a sink that
-//! has failed, and a limit on the number of bytes that one call moves.
+//! This module contains definitions that both sources and sinks use. A source is the object from which the input is
+//! read, and a sink is the object to which the output is written. The definitions are the error of a source or a sink
+//! that has failed, and a limit on the number of bytes that one call moves.
 ghost use Rattle.std.specs.Prelude.{◌≡◌};
 ghost use Rattle.autfmt.specs.Pieces.{capped};
 

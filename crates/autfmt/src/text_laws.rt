@@ -1,6 +1,6 @@
-//! This module has theorems about whole inputs. There is exactly one way to divide an input into lines. Each input
-//! either can be read as exactly one system, or has exactly one first error, but not both. Each theorem is stated as
-//! the contract of a function with an empty body.
+//! This module contains theorems about whole inputs. There is exactly one way to divide an input into lines. Each input
+//! either can be read as exactly one system, or has exactly one first error. No input can be read as a system and has a
+//! first error. Each theorem is stated as the contract of a function with an empty body.
 ghost use Rattle.std.specs.Prelude.{◌≡◌, ◌≢◌, ◌⊎◌, ◌↔◌, ℕ, List, [], ◌++◌};
 ghost use Rattle.theory.specs.System.{System, Hide};
 ghost use Rattle.autfmt.specs.declared.fault.Fault.{Fault};
@@ -12,7 +12,7 @@ ghost use Rattle.autfmt.specs.HideLists.{HideReads, FirstHideFault, JudgedHideFa
 ghost use Rattle.autfmt.specs.HideReaders.{SameLabels};
 ghost use Rattle.autfmt.specs.Readers.{HasGoodHeader};
 
-/// Every input can be divided at its line feeds in exactly one way.
+/// Every input can be divided at its line feeds in exactly one way (`Cuts`).
 pub fn a_text_has_one_cut()
     ensures some { (text : List ℕ) → (ended : List (List ℕ)) × (rest : List ℕ)
         × Cuts text ended rest }
@@ -20,7 +20,7 @@ pub fn a_text_has_one_cut()
         Cuts text e r → Cuts text e' r' → (e ≡ e') × (r ≡ r') }
 {}
 
-/// Every input has exactly one list of lines.
+/// Every input can be divided into lines in exactly one way (`Lines`).
 pub fn a_text_has_its_lines()
     ensures some { (text : List ℕ) → (lines : List (List ℕ)) × Lines text lines }
     ensures one { (text : List ℕ) (k l : List (List ℕ)) → Lines text k → Lines text l → k ≡ l }
@@ -48,11 +48,11 @@ pub fn a_text_reads_or_has_a_fault()
 {}
 
 /// Suppose that the bytes that have been read so far are enough to show that the input has a certain first error
-/// (`JudgedFault`). Then the whole input has this first error, for all bytes that may follow. Now suppose that an input
-/// consists of exactly the bytes that have been read, and that this input has a first error. Then these bytes are
-/// enough to show this error in three cases. In the first case, the error is that a line is too long. In the second
-/// case, the error is that there is a line after the last transition that the header declares. In the third case, the
-/// bytes end with a line feed, and the error is not `MissingEdges` (transitions are missing).
+/// (`JudgedFault`). Then the whole input has this first error, whatever bytes follow. Now suppose that an input
+/// consists of exactly the bytes that have been read, and that this input has a first error. If the error is that a
+/// line is too long, or that there is a line after the last transition that the header declares, then these bytes are
+/// enough to show this error. The bytes are also enough to show the error if they end with a line feed, and the error
+/// is not `MissingEdges` (transitions are missing).
 pub fn a_judged_fault_is_the_first()
     ensures first { (bounds : Bounds) (given more : List ℕ) (f : Fault) →
         JudgedFault bounds given f → FirstFault bounds (given ++ more) f }
@@ -87,11 +87,10 @@ pub fn a_hide_list_reads_or_has_a_fault()
 {}
 
 /// Suppose that the bytes that have been read so far are enough to show that the hide list (the labels to hide) has a
-/// certain first error (`JudgedHideFault`). Then the whole hide list has this first error, for all bytes that may
-/// follow. Now suppose that a hide list consists of exactly the bytes that have been read, and that this hide list has
-/// a first error. Then these bytes are enough to show this error in three cases. In the first case, the bytes end with
-/// a line feed. In the second case, the error is that a line is too long. In the third case, the error is that there
-/// are too many lines.
+/// certain first error (`JudgedHideFault`). Then the whole hide list has this first error, whatever bytes follow. Now
+/// suppose that a hide list consists of exactly the bytes that have been read, and that this hide list has a first
+/// error. If the error is that a line is too long, or that there are too many lines, then these bytes are enough to
+/// show this error. The bytes are also enough to show the error if they end with a line feed.
 pub fn a_judged_hide_fault_is_the_first()
     ensures first { (given more : List ℕ) (f : Fault) → JudgedHideFault given f →
         FirstHideFault (given ++ more) f }

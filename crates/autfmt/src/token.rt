@@ -126,8 +126,8 @@ pub(crate) fn past(mark: u8, line: &[u8]) -> Option<&[u8]>
     }
 }
 
-/// Skips the blanks at the beginning of the line. In most calls there is no blank or only one space. The first two
-/// cases handle these calls quickly.
+/// Skips the blanks at the beginning of the line. In most calls, the line begins with no blank or with only one space.
+/// The first two cases of the `match` handle such lines quickly.
 #[inline(always)]
 #[tactic(auto, unfolding(crate::specs::Reading::after_blanks))]
 fn after_blanks(line: &[u8]) -> &[u8]
@@ -170,7 +170,7 @@ fn is_blank(b: u8) -> bool
     b == b' ' || b == b'\t' || b == b'\r'
 }
 
-/// Reads the number with which the line begins. Returns the number and the bytes after it.
+/// Reads the number at the beginning of the line. Returns the number and the bytes after it.
 #[inline(always)]
 #[tactic(auto, unfolding(crate::specs::Reading::number_at))]
 fn number_at(line: &[u8]) -> Option<(u64, &[u8])>
@@ -182,9 +182,9 @@ fn number_at(line: &[u8]) -> Option<(u64, &[u8])>
     more_digits(u64::from(*first - b'0'), rest)
 }
 
-/// Completes the reading of a number whose first digits were read before and have the value `value`. The line begins
-/// with the remaining digits of the number. Returns the whole number and the bytes after it. The result is `None` if a
-/// digit follows a leading zero, or if the number has more than ten digits.
+/// Completes the reading of a number. The first digits of this number have already been read, and denote the number
+/// `value`. The line begins with the remaining digits of the number. Returns the whole number and the bytes after the
+/// last digit. The result is `None` if a digit follows a leading zero, or if the number has more than ten digits.
 #[inline(always)]
 #[tactic(auto, unfolding(crate::specs::Reading::more_digits))]
 fn more_digits(value: u64, line: &[u8]) -> Option<(u64, &[u8])>
@@ -203,7 +203,7 @@ fn more_digits(value: u64, line: &[u8]) -> Option<(u64, &[u8])>
     Some((value, rest))
 }
 
-/// Reads the label with which the line begins, with or without quotation marks. Returns the label and the bytes after
+/// Reads the label at the beginning of the line, with or without quotation marks. Returns the label and the bytes after
 /// it.
 #[tactic(auto, unfolding(crate::specs::Reading::label_at))]
 fn label_at(line: &[u8]) -> Option<(&[u8], &[u8])>
@@ -242,8 +242,8 @@ fn last_quote(line: &[u8]) -> Option<usize>
     line.iter().rposition(|b| *b == b'"')
 }
 
-/// Reads the plain label (a label without quotation marks) with which the line begins. Returns the label and the bytes
-/// after it.
+/// Reads the plain label (a label without quotation marks) at the beginning of the line. Returns the label and the
+/// bytes after it.
 #[inline(always)]
 #[tactic(auto, unfolding(crate::specs::Reading::plain_at))]
 pub(crate) fn plain_at(line: &[u8]) -> Option<(&[u8], &[u8])>

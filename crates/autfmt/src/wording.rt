@@ -1,5 +1,5 @@
-//! This module prepares the written form of a label once for all transitions with this label. Labels are listed by
-//! rank, which is their position when all labels are sorted by their bytes.
+//! This module prepares the written form of a label once for all transitions with this label. The labels are sorted by
+//! their bytes. The rank of a label is its position in this order.
 ghost use Rattle.std.specs.Prelude.{◌≡◌, ◌<◌, length, map, IfOk, IfErr, IfSome};
 ghost use Rattle.theory.specs.System.{IsLabel};
 ghost use Rattle.lts.specs.Labels.{text_of};
@@ -18,11 +18,11 @@ use std::alloc::Global;
 /// The largest number of labels whose written forms are stored.
 const MOST_SPELLED: usize = 4096;
 
-/// The labels of a system, prepared for writing. The field `entries` has the labels with their IDs, sorted by the bytes
-/// of the labels. The field `ranks` has, for each label ID, the index of the label in `entries`. The field `plain`
-/// states for each entry whether its label may be written without quotation marks. The field `spelled` has the written
-/// forms of the labels of the first `MOST_SPELLED` entries, or of all entries if there are fewer. For a label of more
-/// than 28 bytes, it has an item that stores no bytes.
+/// The labels of a system, prepared for writing. The field `entries` contains the labels with their IDs, sorted by the
+/// bytes of the labels. For each label ID, the field `ranks` contains the index of the label in `entries`. The field
+/// `plain` states for each entry whether its label may be written without quotation marks. The field `spelled` contains
+/// the written forms of the labels of the first `MOST_SPELLED` entries, or of all entries if there are fewer. For a
+/// label of more than 28 bytes, the field `spelled` contains an item that stores no bytes.
 #[derive(Drop)]
 pub(crate) struct Words<'a> {
     pub entries: Vec<(&'a [u8], u32)>,
@@ -49,8 +49,8 @@ impl<'a> Words<'a> {
         })
     }
 
-    /// Returns the label with the rank `rank`, and how this label is written. The rank of a label is its position when
-    /// all labels are sorted by their bytes.
+    /// Returns the label with the rank `rank`, prepared for writing. The rank of a label is its position when all
+    /// labels are sorted by their bytes.
     pub fn word(&self, rank: u32) -> Word<'_>
         requires ready { AreReady self.now }
         requires rank { rank < length self.now.entries.items }
@@ -80,7 +80,7 @@ fn plain_labels(alloc: Global, entries: &[(&[u8], u32)]) -> Result<Vec<bool>, Fa
 }
 
 /// Returns the written forms of the labels of the first `MOST_SPELLED` entries, or of all entries if there are fewer.
-/// For a label of more than 28 bytes, the item stores no bytes.
+/// For a label of more than 28 bytes, the item of the result stores no bytes.
 fn spelled_labels(alloc: Global, entries: &[(&[u8], u32)]) -> Result<Vec<Spelled>, Fault>
     ensures ok { IfOk result (λ spellings. AreSpelled (texts entries.now) spellings.items) }
     ensures err { IfErr result (λ fault. fault ≡ Memory) }

@@ -1,5 +1,5 @@
-//! This module has theorems about the text that is written for a system. Each theorem is stated as the contract of a
-//! function with an empty body.
+//! This module contains theorems about the text that is written for a system. Each theorem is stated as the contract of
+//! a function with an empty body.
 ghost use Rattle.std.specs.Prelude.{◌≡◌, ℕ, ◌≤◌, List, length};
 ghost use Rattle.theory.specs.System.{System, IsSystem};
 ghost use Rattle.autfmt.specs.Bounds.{Bounds, IsWithinFile};

@@ -1,6 +1,6 @@
--- These lemmas are about the entries of a hash table, each of which has a tag, which is a hash. The lemmas show how
--- entries are added, and how entries are found by their tags. They also show how entries are put into new chains when
--- the number of buckets changes.
+-- These lemmas are about the entries of a hash table. Each entry has a tag, which is a hash. The lemmas show how
+-- entries are added, and how entries are found by their tags. The chain of a bucket links all entries in this bucket.
+-- The lemmas also show how entries are put into new chains when the number of buckets changes.
 use Rattle.std.proofs.Common.{rules, ◌≡◌, ◌∙◌, ℕ, ◌+◌, ◌^◌, ◌<◌, ◌≤◌, List, [], ◌∷◌, ◌++◌, length, get_or, set, refl}
 use Rattle.std.proofs.Common.{arith, length-set, get_or-set_same, get_or-set_other}
 use Rattle.std.proofs.lemmas.Bool.{cases_eq}
@@ -29,24 +29,23 @@ module _ (count : ℕ)
 pub tag_is : (entries : List Entry) (r : ℕ) → tag_at (tags_of entries) r ≡ (entry_at entries r).tag
 tag_is entries r = plain.get_or-map (λ x. x.tag) entries r NO_ENTRY
 
--- Each entry has an ID and a tag, which is a hash. Suppose that r is the greatest of the IDs up to `low` that have a
--- certain tag. Suppose also that no ID greater than `low` and less than `end` has this tag. Then r is the greatest of
--- the IDs less than `end` that have this tag.
+-- Each entry has an ID and a tag, which is a hash. Let `low` be less than `end`. Suppose that r is the greatest of the
+-- IDs up to `low` that have a certain tag. Suppose also that no ID greater than `low` and less than `end` has this tag.
+-- Then r is the greatest of the IDs less than `end` that have this tag.
 pub IsLast-further : {tags : List ℕ} {tag low end r : ℕ} → IsLast tags tag (low + 1) r → (0 < end → low < end)
     → ((q : ℕ) → low < q → q < end → tag_at tags q ≡ tag → ⊥) → IsLast tags tag end r
 IsLast-further {tags} {tag} {low} {end} {r} last within none = search rules
 
 module _ {heads : List ℕ} {entries : List Entry} (is : AreBuckets heads entries) where
-  -- Each bucket has a chain, which links all IDs in this bucket. Let `first` be the head of the chain in the bucket for
-  -- a tag, which is a hash. If r is the greatest ID up to `first` with this tag, then r is the greatest of all IDs with
-  -- this tag.
+  -- Let `first` be the greatest ID in the bucket for a tag (a hash), or 0 if the bucket is empty. If r is the greatest
+  -- ID up to `first` with this tag, then r is the greatest of all IDs with this tag.
   pub last_is : {tag b first r : ℕ} → b ≡ bucket_of_tag (length heads) tag → b < length heads → first ≡ get_or heads b 0
       → IsLast (tags_of entries) tag (first + 1) r → IsLast (tags_of entries) tag (length (tags_of entries)) r
   last_is {tag} {b} {first} at_b low head last =
       search (rules, length-map, IsLast-further, is.chained.heads_below, is.chained.heads_last, tag_is)
 
-  -- Each entry has an ID and a tag, which is a hash. The chain of a bucket links all IDs in this bucket. Let `first` be
-  -- the ID before k in the chain of the bucket of k. If r is the greatest ID up to `first` with the tag of k, then r is
+  -- Each entry has an ID and a tag, which is a hash. Let k be an ID, and let `first` be the greatest ID less than k in
+  -- the bucket of k, or 0 if there is no such ID. If r is the greatest ID up to `first` with the tag of k, then r is
   -- the greatest ID less than k with this tag.
   pub before_is : {k r first : ℕ} → 0 < k → k < length entries → first ≡ (entry_at entries k).before
       → IsLast (tags_of entries) (tag_at (tags_of entries) k) (first + 1) r
@@ -56,8 +55,10 @@ module _ {heads : List ℕ} {entries : List Entry} (is : AreBuckets heads entrie
       IsLast-further last (λ some. omega arith) (λ q high in' e.
       grind (arith, is.chained.before_last q k, tag_is entries q, tag_is entries k))
 
--- Suppose that a new entry is put at the head of the chain of its bucket, which links all entries in this bucket. Then
--- the hash table still satisfies `AreBuckets`, so that every entry is found by its tag (hash).
+-- Suppose that a hash table that satisfies `AreBuckets` contains fewer than `MOST_ENTRIES` entries. Suppose also that a
+-- new entry is put at the head of the chain of its bucket, which links all entries in this bucket. Then the hash table
+-- still satisfies `AreBuckets`, which means that every entry except the entry with the ID 0 is found by its tag (a hash
+-- of 32 bits).
 pub AreBuckets-push : (heads : List ℕ) (entries : List Entry) (new : Entry) (b : ℕ) → AreBuckets heads entries
     → length entries < MOST_ENTRIES → b < length heads
     → new.tag < 2 ^ 32 → b ≡ bucket_of_tag (length heads) new.tag → new.before ≡ get_or heads b 0
@@ -83,9 +84,10 @@ AreBuckets-push heads entries new b is few in' low at_b head =
     }
 
 -- The loop of the function `chain` puts each entry into the chain of its bucket, which links all entries in this
--- bucket. `Rechained` is the invariant of this loop, and holds under three conditions. First, r is greater than 0, and
--- the entries with IDs greater than 0 and less than r are in the chains of their buckets. Second, there are as many
--- buckets and entries as before the loop. Third, each entry has the same tag (hash) as before the loop.
+-- bucket. `Rechained` is the invariant of this loop, and holds if all three of the following conditions hold. First, r
+-- is greater than 0, and the entries with IDs greater than 0 and less than r are in the chains of their buckets.
+-- Second, there are as many buckets and entries as before the loop. Third, each entry has the same tag (hash) as before
+-- the loop.
 pub record Rechained (old : List Entry) (buckets r : ℕ) (heads : List ℕ) (entries : List Entry) : Type 0 where
   pub some : 0 < r
   pub as_many : length heads ≡ buckets
@@ -94,8 +96,9 @@ pub record Rechained (old : List Entry) (buckets r : ℕ) (heads : List ℕ) (en
   pub chained : AreChained r entries heads
 
 -- The loop of the function `empty_each` empties the bucket of each entry. `Emptied` is the invariant of this loop, and
--- holds under three conditions. First, each bucket that had a last ID less than r before the loop is empty. Second, the
--- buckets that are not empty have not changed. Third, the number of buckets has not changed.
+-- holds if all three of the following conditions hold. First, each bucket whose greatest ID was less than r before the
+-- loop is now empty. Second, the buckets that are not empty have not changed. Third, the number of buckets has not
+-- changed.
 pub record Emptied (old : List ℕ) (r : ℕ) (heads : List ℕ) : Type 0 where
   pub as_many : length heads ≡ length old
   pub left : (b : ℕ) → b < length old → 0 < get_or heads b 0 →

@@ -1,6 +1,6 @@
 -- Defines how a hash table is represented. Each entry has an ID and a tag, which is a hash of 32 bits and determines
--- the bucket of the entry. Each bucket has a chain, which links the IDs of the entries in this bucket, from the last ID
--- to the first. To find the entries with a tag, a search goes through the chain of the bucket for this tag.
+-- the bucket of the entry. Each bucket has a chain, which links the IDs of the entries in this bucket in descending
+-- order. To find the entries with a tag, a search goes through the chain of the bucket for this tag.
 use Rattle.std.specs.Prelude.{◌≡◌, ℕ, ◌*◌, ◌/◌, ◌^◌, ◌<◌, ◌≤◌, List, map, length, slice_index, slice_index_or}
 use Rattle.std.specs.List.{All}
 use Rattle.buckets.specs.declared.chains.Entry.{Entry}
@@ -16,10 +16,10 @@ tags_of entries = map (λ x. x.tag) entries
 abbrev pub bucket_of_tag : ℕ → ℕ → ℕ
 bucket_of_tag buckets tag = tag * buckets / 2 ^ 32
 
--- `IsChained` holds if each bucket has a chain, which links all IDs in the bucket from the last ID to the first. The
--- IDs in the chains are the IDs greater than 0 and less than `count`. The function `bucket` maps each ID to its bucket.
--- The list `heads` has the last ID in each bucket, or 0 if the bucket is empty. The function `before` maps each ID to
--- the previous ID in the same bucket, or to 0 if there is no previous ID.
+-- `IsChained` holds if each bucket has a chain, which links all IDs in the bucket in descending order. The IDs in the
+-- chains are the IDs greater than 0 and less than `count`. The function `bucket` maps each ID to its bucket. The list
+-- `heads` contains the greatest ID in each bucket, or 0 if the bucket is empty. The function `before` maps each ID to
+-- the next smaller ID in the same bucket, or to 0 if there is no smaller ID.
 pub record IsChained (count : ℕ) (bucket before : ℕ → ℕ) (heads : List ℕ) : Type 0 where
   pub heads_below : (b : ℕ) → b < length heads → slice_index heads b < count
   pub heads_fit : (b : ℕ) → b < length heads → 0 < slice_index heads b → bucket (slice_index heads b) ≡ b
@@ -32,13 +32,13 @@ pub record IsChained (count : ℕ) (bucket before : ℕ → ℕ) (heads : List �
 abbrev pub entry_at : List Entry → ℕ → Entry
 entry_at entries r = slice_index_or entries r NO_ENTRY
 
--- Returns the bucket of the entry with the ID r. The list `heads` has one element for each bucket, so that its length
--- is the number of buckets.
+-- Returns the bucket of the entry with the ID r. The list `heads` contains one element for each bucket, so that the
+-- length of this list is the number of buckets.
 abbrev pub entry_bucket : List Entry → List ℕ → ℕ → ℕ
 entry_bucket entries heads r = bucket_of_tag (length heads) (entry_at entries r).tag
 
--- `AreChained` holds if each bucket has a chain, which links all entries in the bucket. The chains have the entries
--- with IDs greater than 0 and less than `count`. The list `heads` has the last ID in each bucket.
+-- `AreChained` holds if each bucket has a chain, which links all entries in the bucket. The chains contain the entries
+-- with IDs greater than 0 and less than `count`. The list `heads` contains the greatest ID in each bucket.
 abbrev pub AreChained : ℕ → List Entry → List ℕ → Type 0
 AreChained count entries heads = IsChained count (entry_bucket entries heads) (λ r. (entry_at entries r).before) heads
 
@@ -54,9 +54,10 @@ pub record AreBuckets (heads : List ℕ) (entries : List Entry) : Type 0 where
   pub tags : All (λ tag. tag < 2 ^ 32) (tags_of entries)
   pub chained : AreChained (length entries) entries heads
 
--- `IsInChain` holds if a search for the tag `tag`, which is a hash, may start at the ID r. This requires two
--- conditions. First, the entries form a correct hash table (`AreBuckets`) together with some list of heads, which has
--- the last ID in each bucket. Second, r is 0, or the entry with the ID r is in the bucket for the tag `tag`.
+-- `IsInChain` holds if a search for the tag `tag`, which is a hash, may start at the ID r. The first of the two
+-- conditions is that the entries and some list of heads together form a correct hash table (`AreBuckets`). The list of
+-- heads contains the greatest ID in each bucket. The second condition is that r is 0, or that the entry with the ID r
+-- is in the bucket for the tag `tag`.
 abbrev pub IsInChain : List Entry → ℕ → ℕ → Type 0
 IsInChain entries tag r = (heads : List ℕ) × AreBuckets heads entries
     × (0 < r → entry_bucket entries heads r ≡ bucket_of_tag (length heads) tag)

@@ -1,5 +1,5 @@
 //! The entries of a hash table, and the chains of its buckets. The chain of a bucket links all entries in this bucket,
-//! from the last entry to the first. Each entry has a tag, which is a hash and determines the bucket of the entry.
+//! in descending order of their IDs. Each entry has a tag, which is a hash and determines the bucket of the entry.
 ghost use Rattle.std.specs.Prelude.{◌≡◌, ℕ, ◌^◌, ◌+◌, ◌++◌, ◌∷◌, ◌<◌, ◌≤◌, [], length, slice_index};
 ghost use Rattle.std.specs.Vec.{vec_len, vec_capacity};
 ghost use Rattle.buckets.specs.Buckets.{IsLast};
@@ -69,9 +69,9 @@ pub(crate) fn add_entry(heads: &mut [u32], entries: &mut Vec<Entry>, tag: u32)
     heads[b] = number;
 }
 
-/// If there are more entries than buckets, this function adds buckets, up to `MOST_BUCKETS`, and puts all entries into
-/// their new buckets. The entries in each bucket are linked into a chain. A table with few entries has few buckets, and
-/// therefore stays in the cache of the processor.
+/// If there are more entries than buckets, this function adds buckets (up to a total of `MOST_BUCKETS`), and puts all
+/// entries into their new buckets. The entries in each bucket are linked into a chain. A table with few entries has few
+/// buckets, and therefore stays in the cache of the processor.
 ///
 /// If this function fails, the buckets do not change.
 pub(crate) fn widen(heads: &mut Vec<u32>, entries: &mut [Entry]) -> Result<(), Memory>

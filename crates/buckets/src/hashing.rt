@@ -6,13 +6,14 @@ const FIRST_FACTOR: u64 = 0x9E37_79B9_7F4A_7C15;
 
 const SUM_FACTOR: u64 = 0xD6E8_FEB8_6659_FD93;
 
-/// Returns a hash of the numbers `first` and `second`. The function combines them into one number of 64 bits, and
-/// multiplies this number by a constant. The hash is the exclusive or of the upper and the lower half of the product,
-/// which has 128 bits. If the hash were only the lower half of the product, the sum of the hashes of two pairs of
-/// numbers would depend only on the sum of their first numbers and on the sum of their second numbers.
+/// Returns a hash of the numbers `first` and `second`. The function adds 1 to `first`, multiplies the sum by a
+/// constant, and adds `second`. The lower 64 bits of the result are then multiplied by another constant. The hash is
+/// the exclusive or of the upper and the lower half of the product, which has 128 bits. If the hash were only the lower
+/// half of the product, the sum of the hashes of two pairs of numbers would depend only on the sum of their first
+/// numbers and on the sum of their second numbers.
 ///
-/// Before the numbers are combined, 1 is added to `first`. Otherwise, if `first` is 0 and `second` is small, the upper
-/// half of the product would be small too, and the hash would depend almost linearly on `second`.
+/// If 1 were not added to `first`, the hash would be worse when `first` is 0 and `second` is small: the upper half of
+/// the product would be small too, and the hash would depend almost linearly on `second`.
 #[tactic(auto, unfolding(crate::specs::Hashing::hash_of))]
 pub fn hash(first: u32, second: u64) -> u64
     ensures { result ≡ hash_of (first, second) }

@@ -36,17 +36,17 @@ const MOST_BUCKETS: usize = 1 << 26;
 /// The growth factor: when there are more entries than buckets, the number of buckets is multiplied by this factor.
 const GROWTH_FACTOR: usize = 4;
 
-/// Emptying the bucket of one entry takes about as long as emptying this many adjacent buckets. The reason is that the
-/// position of the bucket has to be computed from the tag of the entry, which is a hash.
+/// Emptying the bucket that a given entry belongs to takes about as long as emptying this number of adjacent buckets.
+/// The reason is that the position of the bucket has to be computed from the tag of the entry, which is a hash.
 const BUCKETS_PER_ENTRY: usize = 16;
 
 /// A hash table that maps each tag, which is a hash of 32 bits, to the IDs of the entries with this tag. The first
 /// entry that is pushed has the ID 1, the second entry has the ID 2, and so on. The ID 0 stands for no entry.
 #[derive(Drop)]
 pub struct Buckets {
-    /// The last ID in each bucket, or 0 if the bucket is empty.
+    /// The greatest ID in each bucket, or 0 if the bucket is empty.
     heads: Vec<u32>,
-    /// The tag (hash) of each ID, and the previous ID in the same bucket.
+    /// For each ID, the tag (a hash) of its entry, and the next smaller ID in the same bucket.
     entries: Vec<Entry>,
 }
 
@@ -68,7 +68,7 @@ impl Model for Buckets {
 }
 
 impl Buckets {
-    /// Returns a table that has no entries, and that has memory for `room` entries.
+    /// Returns a table without entries, which has memory for `room` entries.
     pub fn new(alloc: Global, room: u32) -> Result<Buckets, Memory>
         ensures { IfOk result (λ x. x.tags ≡ 0 ∷ []) }
     {
@@ -80,8 +80,8 @@ impl Buckets {
         Ok(Buckets { heads, entries })
     }
 
-    /// This call is a lemma: it does nothing at run time. Its contract states properties that the tags (hashes of 32
-    /// bits) of every table have.
+    /// This call is a lemma: it does nothing at run time. Its contract states properties of the tags (hashes of 32
+    /// bits) in a table.
     pub fn invariants(&self)
         ensures some { 1 ≤ length self.now.tags }
         ensures few { length self.now.tags ≤ MOST_ENTRIES }
@@ -98,7 +98,7 @@ impl Buckets {
         self.entries.len() as u32
     }
 
-    /// Returns the last ID whose entry has the tag `tag` (a hash of 32 bits), or 0 if no entry has this tag.
+    /// Returns the greatest ID whose entry has the tag `tag` (a hash of 32 bits), or 0 if no entry has this tag.
     #[inline(always)]
     pub fn last(&self, tag: u32) -> u32
         ensures { IsLast self.now.tags tag (length self.now.tags) result }
@@ -107,8 +107,8 @@ impl Buckets {
         down(&self.entries, tag, first)
     }
 
-    /// Returns the last ID that is less than `r` and whose entry has the same tag (a hash of 32 bits) as the entry with
-    /// the ID `r`. Returns 0 if there is no such ID.
+    /// Returns the greatest ID that is less than `r` and whose entry has the same tag (a hash of 32 bits) as the entry
+    /// with the ID `r`. Returns 0 if there is no such ID.
     #[inline(always)]
     pub fn before(&self, r: u32) -> u32
         requires some { 0 < r }
@@ -132,8 +132,8 @@ impl Buckets {
         self.grow()
     }
 
-    /// Makes room for one more entry. If all IDs are in use, this function asks for more memory than any computer has,
-    /// so that it fails.
+    /// Makes room for one more entry, and adds buckets if there are more entries than buckets. If all IDs are in use,
+    /// the function asks for more memory than any computer has, and therefore fails.
     #[inline(never)]
     fn grow(&mut self) -> Result<(), Memory>
         ensures same { self.new.tags ≡ self.old.tags }

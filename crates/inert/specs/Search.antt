@@ -1,5 +1,5 @@
 -- Defines the data and the invariant of the depth-first search along inert transitions. The stack of the search is
--- divided into components. A component is a set of states that inert transitions connect in both directions. The root
+-- divided into components. A component is a set of states that can reach each other along inert transitions. The root
 -- of a component is its first state on the stack. The height of a state is its index on the stack. Each component
 -- collects items. An item is a pair (label ID, block) or the ID of a signature. Each frame belongs to a state on the
 -- stack, and records which outgoing transitions of this state are still to be read.
@@ -29,12 +29,12 @@ pub use Rattle.inert.specs.declared.item.Item.TheVariants.{Pair, Interned}
 abbrev pub item_of : ℕ → ℕ → Item
 item_of a b = cond (a == INTERNED) (Interned b) (Pair a b)
 
--- `Search` has the data of a depth-first search along inert transitions. The list `stages` has the status of each
--- state: unvisited, on the stack, or completed. Each frame belongs to a state on the stack, and records which outgoing
--- transitions of this state are still to be read. The stack is divided into components, which are sets of states that
--- inert transitions connect in both directions. For each component, the list `roots` has the root of the component,
--- which is its first state on the stack. The list `items` has the pairs (label ID, block) and the signature IDs that
--- the components have collected.
+-- `Search` contains the data of a depth-first search along inert transitions. The list `stages` contains the status of
+-- each state: unvisited, on the stack, or completed. Each frame belongs to a state on the stack, and records which
+-- outgoing transitions of this state are still to be read. The stack is divided into components, which are sets of
+-- states that can reach each other along inert transitions. For each component, the list `roots` contains the root of
+-- the component, which is its first state on the stack. The list `items` contains the pairs (label ID, block) and the
+-- signature IDs that the components have collected.
 pub record Search : Type 0 where
   pub stages : List VisitState
   pub stack : List ℕ
@@ -42,13 +42,13 @@ pub record Search : Type 0 where
   pub roots : List Root
   pub items : List Item
 
--- Returns the data of the search while no search is in progress. The argument `stages` has the status of each state.
--- The stack and all other lists of the result are empty.
+-- Returns the data that `Search` contains while no search is in progress. The argument `stages` contains the status of
+-- each state. The stack and all other lists of the result are empty.
 abbrev pub nothing : List VisitState → Search
 nothing stages = record { stages = stages; stack = []; frames = []; roots = []; items = [] }
 
--- Returns the status of the state s in the list `stages`: unvisited, on the stack, or completed. If the list has no
--- entry for s, the result is `Unvisited`.
+-- Returns the status of the state s in the list `stages`: unvisited, on the stack, or completed. If the list contains
+-- no entry for s, the result is `Unvisited`.
 abbrev pub stage_at : List VisitState → ℕ → VisitState
 stage_at stages s = slice_index_or stages s Unvisited
 
@@ -78,22 +78,23 @@ abbrev pub unread : List Triple → List VisitState → ℕ
 unread places stages = length (filter (λ e. is_unvisited (stage_at stages (source_of e))) places)
 
 -- Each frame belongs to a state on the stack, and records which outgoing transitions of this state are still to be
--- read. Returns the number of visits (counted reads) that are needed to read these transitions for all frames. A
--- transition is read without a visit if its place, which is its index in the list of all transitions, is in the list
--- `visited`.
+-- read. Returns the number of visits (reads that the meter counts) that are needed to read these transitions for all
+-- frames. A transition is read without a visit if its place, which is its index in the list of all transitions, is in
+-- the list `visited`.
 abbrev pub rest : List ℕ → List Frame → ℕ
 rest visited frames = sum_by (λ x. price_between visited x.next x.end) frames
 
--- `KeepsVisited` compares the statuses of all states at two points `old` and `new` of the search. It holds under two
--- conditions. First, each state that is unvisited at the point `new` is also unvisited at the point `old`. Second, each
--- state that is completed at the point `old` is completed at the point `new` with the same signature ID.
+-- `KeepsVisited` compares the statuses of all states at two points `old` and `new` of the search. It holds if both of
+-- the following conditions hold. First, each state that is unvisited at the point `new` is also unvisited at the point
+-- `old`. Second, each state that is completed at the point `old` is completed at the point `new` with the same
+-- signature ID.
 pub record KeepsVisited (old new : List VisitState) : Type 0 where
   pub unseen : (s : ℕ) → stage_at new s ≡ Unvisited → stage_at old s ≡ Unvisited
   pub finished : (s k : ℕ) → stage_at old s ≡ Completed k → stage_at new s ≡ Completed k
 
--- `HasVisitStates` holds under three conditions. First, the list `stages` has a status for each of the `states` states
--- of the system. Second, the number `signatures` of interned signatures is at least 1. Third, the number of unvisited
--- states plus the number `stack` of states on the stack is at most `states`.
+-- `HasVisitStates` holds if all three of the following conditions hold. First, the system has `states` states, and the
+-- list `stages` contains the status of each state. Second, the number `signatures` of interned signatures is at least
+-- 1. Third, the number of unvisited states plus the number `stack` of states on the stack is at most `states`.
 pub record HasVisitStates (states signatures stack : ℕ) (stages : List VisitState) : Type 0 where
   pub size : length stages ≡ states
   pub some : 1 ≤ signatures
@@ -108,9 +109,9 @@ pub record HasEnded (w : Search) : Type 0 where
   pub empty : w ≡ nothing w.stages
   pub all : (s : ℕ) → s < length w.stages → IsFinished w.stages s
 
--- `AreMarkedUnvisited` is about the data w of the search. It holds under three conditions. First, no search is in
--- progress. Second, each active state, which is a state that the round processes, is unvisited. Third, every other
--- state has the same status as in the list `old`.
+-- `AreMarkedUnvisited` is about the data w of the search. It holds if all four of the following conditions hold. First,
+-- no search is in progress. Second, each active state, which is a state that the round processes, is unvisited. Third,
+-- every other state has the same status as in the list `old`. Fourth, w contains as many statuses as the list `old`.
 pub record AreMarkedUnvisited (old : List VisitState) (active : List ℕ) (w : Search) : Type 0 where
   pub empty : w ≡ nothing w.stages
   pub size : length w.stages ≡ length old
@@ -129,7 +130,7 @@ frame_at frames i = slice_index_or frames i (record { height = 0; next = 0; end 
 abbrev pub top : List Frame → Frame
 top frames = frame_at frames (length frames - 1)
 
--- The stack is divided into components, which are sets of states that inert transitions connect in both directions. The
+-- The stack is divided into components, which are sets of states that can reach each other along inert transitions. The
 -- root of a component is its first state on the stack. Returns the root at the index i of the list `roots`. If there is
 -- no root at this index, both fields of the result are 0.
 abbrev pub root_at : List Root → ℕ → Root
@@ -141,9 +142,9 @@ abbrev pub item_at : List Item → ℕ → Item
 item_at items j = slice_index_or items j (Pair 0 0)
 
 -- `Laws` states four laws about paths of inert steps in a system A whose states are divided into blocks. First, the
--- empty path leads from each state to itself (`here`). Second, a path that is followed by an inert step is a path
--- (`after`). Third, a path that is followed by another path is a path (`joined`). Fourth, if a path leads from the
--- state s to the state t, the signature of s contains each pair of the signature of t (`path`).
+-- empty path leads from each state to itself (`here`). Second, a path followed by an inert step is again a path
+-- (`after`). Third, a path followed by another path is again a path (`joined`). Fourth, if a path leads from the state
+-- s to the state t, the signature of s contains each pair of the signature of t (`path`).
 pub record Laws : Type 0 where
   pub here : (A : System) (blocks : ℕ → ℕ) (s : ℕ) → Leads (Inert A blocks) s s
   pub after : (A : System) (blocks : ℕ → ℕ) (s t u : ℕ) → Leads (Inert A blocks) s t → Inert A blocks t u →
@@ -159,7 +160,7 @@ LeadsInertly u s t = Leads (Inert (system_of u.l) (slice_index u.blocks)) s t
 
 -- The stack is divided into components, which are strongly connected sets of adjacent states. Consider the component
 -- that contains the state at the index p of the stack. `IsNotBelow` holds if the index q is at least the index of the
--- first state of this component.
+-- first state of this component on the stack.
 abbrev pub IsNotBelow : List Root → ℕ → ℕ → Type 0
 IsNotBelow roots p q = All (λ r. r.height ≤ p → r.height ≤ q) roots
 
@@ -169,9 +170,8 @@ IsNotBelow roots p q = All (λ r. r.height ≤ p → r.height ≤ q) roots
 abbrev pub BelongsTo : List Root → ℕ → ℕ → Type 0
 BelongsTo roots j p = All (λ r. (r.height ≤ p → r.items ≤ j) × (p < r.height → j < r.items)) roots
 
--- An item is a pair (label ID, block) or a signature ID. `GivesPair` holds if the given item represents the pair z.
--- There are two cases. In the first case, the item is the pair z itself. In the second case, the item is the ID of a
--- signature that contains z.
+-- An item is a pair (label ID, block) or a signature ID. `GivesPair` holds if the given item represents the pair z. An
+-- item represents z if the item is the pair z itself, or if it is the ID of a signature that contains z.
 abbrev pub GivesPair : List (List (ℕ × ℕ)) → Item → ℕ × ℕ → Type 0
 GivesPair signatures (Pair a b) z = (a, b) ≡ z
 GivesPair signatures (Interned k) z = Contains (list_at signatures k) z
@@ -184,8 +184,8 @@ abbrev pub ComponentHasPair : List (List (ℕ × ℕ)) → Search → ℕ → �
 ComponentHasPair signatures w p z = (j : ℕ) × (j < length w.items) × GivesPair signatures (item_at w.items j) z
     × BelongsTo w.roots j p
 
--- `AreOpen` holds under two conditions. First, each state on the stack has the status `OnStack` with the index of this
--- state on the stack. Second, no other state has the status `OnStack`.
+-- `AreOpen` holds if both of the following conditions hold. First, each state on the stack has the status `OnStack`
+-- with the index of this state on the stack. Second, no other state has the status `OnStack`.
 pub record AreOpen (stages : List VisitState) (stack : List ℕ) : Type 0 where
   pub placed : (p : ℕ) → p < length stack → stage_at stages (slice_index stack p) ≡ OnStack p
   pub only : (s p : ℕ) → stage_at stages s ≡ OnStack p → (p < length stack) × (slice_index stack p ≡ s)
@@ -195,44 +195,44 @@ pub record IsSigned (u : Under) (s : ℕ) (signatures : List (List (ℕ × ℕ))
   pub within : k < length signatures
   pub signature : IsSignature Branching u.l u.blocks s (list_at signatures k)
 
--- `IsCacheable` holds if k is the ID of an interned signature that may be cached for the state s. There are two cases
--- in which this signature may be cached. In the first case, it is the branching signature of s. In the second case, all
--- states in the block of s are completed.
+-- `IsCacheable` holds if k is the ID of an interned signature that may be cached for the state s. A signature may be
+-- cached for s if it is the branching signature of s, or if all states in the block of s are completed.
 pub record IsCacheable (u : Under) (s : ℕ) (signatures : List (List (ℕ × ℕ))) (stages : List VisitState) (k : ℕ) : Type
     0 where
   pub within : k < length signatures
   pub signature : (t : ℕ) → t < u.l.states → slice_index u.blocks t ≡ slice_index u.blocks s →
       IsFinished stages t ⊎ IsSignature Branching u.l u.blocks s (list_at signatures k)
 
--- `AreCacheable` holds if each completed state s satisfies one of two conditions (`IsCacheable`). Either the cached
--- signature of s is the branching signature of s, or all states in the block of s are completed.
+-- `AreCacheable` holds if the status of each completed state s contains the ID of an interned signature, and s
+-- satisfies at least one of two conditions (`IsCacheable`). The first condition is that the cached signature of s is
+-- the branching signature of s. The second condition is that all states in the block of s are completed.
 abbrev pub AreCacheable : Under → List (List (ℕ × ℕ)) → List VisitState → Type 0
 AreCacheable u signatures stages = (s k : ℕ) → stage_at stages s ≡ Completed k → IsCacheable u s signatures stages k
 
 -- The stack is divided into components, which are strongly connected sets of states. Each component collects items:
--- pairs (label ID, block) and signature IDs. A value of type `Root` belongs to a component. It has the index of the
--- first state of the component on the stack, and the index at which the items of the component begin in the list of all
--- items. `IsRoot` holds under two conditions. First, the first state of the component has a frame, which means that the
--- search has not yet gone back from this state. Second, the index at which the items of this component begin is at most
--- the number of all items that are stored.
+-- pairs (label ID, block) and signature IDs. A value of type `Root` belongs to a component. This value stores the index
+-- of the first state of the component on the stack, and the index at which the items of the component begin in the list
+-- of all items. `IsRoot` holds if both of the following conditions hold. First, the first state of the component has a
+-- frame, which means that the search has not yet gone back from this state. Second, the index at which the items of
+-- this component begin is at most the number of all items that are stored.
 pub record IsRoot (frames : List Frame) (items : List Item) (r : Root) : Type 0 where
   pub framed : (i : ℕ) × (i < length frames) × ((frame_at frames i).height ≡ r.height)
   pub within : r.items ≤ length items
 
 -- The stack is divided into components, which are strongly connected sets of states. Each component collects items:
--- pairs (label ID, block) and signature IDs. A value of type `Root` belongs to a component. It has the index of the
--- first state of the component on the stack, and the index at which the items of the component begin in the list of all
--- items. `AreRoots` holds under three conditions. First, if the stack is not empty, some component begins at the index
--- 0 of the stack. Second, the roots are in ascending order of both of their indices, and no two components begin at the
--- same state. Third, each root satisfies `IsRoot`.
+-- pairs (label ID, block) and signature IDs. A value of type `Root` belongs to a component. This value stores the index
+-- of the first state of the component on the stack, and the index at which the items of the component begin in the list
+-- of all items. `AreRoots` holds if all three of the following conditions hold. First, if the stack is not empty, some
+-- component begins at the index 0 of the stack. Second, the roots are in ascending order of both of their indices, and
+-- no two components begin at the same state. Third, each root satisfies `IsRoot`.
 pub record AreRoots (w : Search) : Type 0 where
   pub first : 0 < length w.stack → ¬ All (λ r. 0 < r.height) w.roots
   pub ascending : AllPairs (λ x y. (x.height < y.height) × (x.items ≤ y.items)) w.roots
   pub each : All (IsRoot w.frames w.items) w.roots
 
 -- A frame belongs to a state, and records which outgoing transitions of this state are still to be read. These
--- transitions are at the places (indices in the list of all transitions) from `next` up to but excluding `end`.
--- `IsFrame` holds under two conditions. First, the state of the frame x is on the stack. Second, the transitions that
+-- transitions are at the places k (indices in the list of all transitions) with `next` <= k < `end`. `IsFrame` holds if
+-- both of the following conditions hold. First, the state of the frame x is on the stack. Second, the transitions that
 -- the frame x records are the last part, which may be empty, of all outgoing transitions of this state.
 pub record IsFrame (l : Grouped) (stack : List ℕ) (x : Frame) : Type 0 where
   pub on_stack : x.height < length stack
@@ -242,9 +242,9 @@ pub record IsFrame (l : Grouped) (stack : List ℕ) (x : Frame) : Type 0 where
   pub most : x.next ≤ x.end
 
 -- Each frame belongs to a state on the stack, and records which outgoing transitions of this state are still to be
--- read. `AreFrames` holds under two conditions. First, the frames are in ascending order of the indices of their states
--- on the stack. Second, each frame satisfies `IsFrame`, so that the transitions that it records are the last part of
--- all outgoing transitions of its state.
+-- read. `AreFrames` holds if both of the following conditions hold. First, the frames are in ascending order of the
+-- indices of their states on the stack. Second, each frame satisfies `IsFrame`. This means that the transitions that
+-- the frame records are the last part of all outgoing transitions of its state.
 pub record AreFrames (l : Grouped) (stack : List ℕ) (frames : List Frame) : Type 0 where
   pub ascending : AllPairs (λ x y. x.height < y.height) frames
   pub each : All (IsFrame l stack) frames
@@ -283,7 +283,7 @@ abbrev pub IsToBeRead : Search → ℕ → ℕ → Type 0
 IsToBeRead w p k = (i : ℕ) × (i < length w.frames) × ((frame_at w.frames i).height ≡ p)
     × ((frame_at w.frames i).next ≤ k)
 
--- The stack is divided into components, which are sets of states that inert transitions connect in both directions.
+-- The stack is divided into components, which are sets of states that can reach each other along inert transitions.
 -- `IsInComponent` holds if the state t is on the stack, and is in the same component as the state at the index p of the
 -- stack.
 abbrev pub IsInComponent : Search → ℕ → ℕ → Type 0
@@ -304,20 +304,19 @@ abbrev pub IsBeingSearched : Search → ℕ → ℕ → Type 0
 IsBeingSearched w p t = (i : ℕ) × (i + 1 < length w.frames) × ((frame_at w.frames i).height ≡ p)
     × (slice_index w.stack (frame_at w.frames (i + 1)).height ≡ t)
 
--- The stack is divided into components, which are sets of states that inert transitions connect in both directions.
+-- The stack is divided into components, which are sets of states that can reach each other along inert transitions.
 -- `IsFollowed` holds if the search has followed an inert step from the state at the index p of the stack to the state
--- t. There are three cases. In the first case, t is on the stack, in the same component as the state at the index p. In
--- the second case, t is completed, and the component of the state at the index p has collected all pairs of the cached
--- signature of t. In the third case, the search went from the state at the index p to t and has not yet returned from
--- t.
+-- t. This means that at least one of three conditions holds. The first condition is that t is on the stack, in the same
+-- component as the state at the index p. The second condition is that t is completed, and that the component of the
+-- state at the index p has collected all pairs of the cached signature of t. The third condition is that the search
+-- went from the state at the index p to t and has not yet returned from t.
 abbrev pub IsFollowed : List (List (ℕ × ℕ)) → Search → ℕ → ℕ → Type 0
 IsFollowed signatures w p t = IsInComponent w p t ⊎ IsCollected signatures w p t ⊎ IsBeingSearched w p t
 
--- The stack is divided into components, which are sets of states that inert transitions connect in both directions.
--- `IsHandled` holds if the search has processed the transition e of the state at the index p of the stack. There are
--- two cases. In the first case, e is inert, and the search has followed e to its target (`IsFollowed`). In the second
--- case, e is not inert, and the component of the state at the index p has collected the pair (label ID, target block)
--- of e.
+-- The stack is divided into components, which are sets of states that can reach each other along inert transitions.
+-- `IsHandled` holds if the search has processed the transition e of the state at the index p of the stack. If e is
+-- inert, this means that the search has followed e to its target (`IsFollowed`). If e is not inert, this means that the
+-- component of the state at the index p has collected the pair (label ID, target block) of e.
 pub record IsHandled (u : Under) (signatures : List (List (ℕ × ℕ))) (w : Search) (p : ℕ) (e : Triple) : Type 0 where
   pub shown : ¬ IsInert u (slice_index u.blocks (source_of e)) e
       → ComponentHasPair signatures w p (pair_under u.blocks e)

@@ -16,8 +16,9 @@ abbrev pub HasPair : Relation → Grouped → List ℕ → ℕ → ℕ → ℕ �
 HasPair rel l blocks s k b =
     (k < length l.labels) × Signature rel (system_of l) (slice_index blocks) s (text_of l.labels k) b
 
--- `IsSignature` holds under two conditions. First, the list `pairs` contains exactly the pairs (label ID, block) of the
--- signature of the state s. Second, the pairs are in ascending order, and each pair occurs only once.
+-- `IsSignature` holds if both of the following conditions hold. First, the list `pairs` contains exactly the pairs
+-- (label ID, block) of the signature of the state s. Second, the pairs are in ascending order, and each pair occurs
+-- only once.
 pub record IsSignature (rel : Relation) (l : Grouped) (blocks : List ℕ) (s : ℕ) (pairs : List (ℕ × ℕ)) : Type 0 where
   pub exactly : (k b : ℕ) → Contains pairs (k, b) ↔ HasPair rel l blocks s k b
   pub ascending : IsStrictlySortedBy pair_cmp pairs
@@ -26,10 +27,10 @@ pub record IsSignature (rel : Relation) (l : Grouped) (blocks : List ℕ) (s : �
 abbrev pub pair_under : List ℕ → Triple → ℕ × ℕ
 pair_under blocks e = (label_of e, slice_index blocks (target_of e))
 
--- The active states are the states that the round processes. `CachesBeside` holds under two conditions. First, the list
--- `cached` has the ID of an interned signature for each state. Second, consider a state that is not active but shares a
--- block with an active state. The signature with the ID that `cached` has for this state is the branching signature of
--- the state.
+-- The active states are the states that the round processes. `CachesBeside` holds if both of the following conditions
+-- hold. First, the list `cached` contains the ID of an interned signature for each state. Second, if a state is not
+-- active but shares a block with an active state, the list `cached` contains the ID of the branching signature of this
+-- state.
 pub record CachesBeside (l : Grouped) (blocks active : List ℕ) (signatures : List (List (ℕ × ℕ))) (cached : List ℕ) :
     Type 0 where
   pub states : length cached ≡ l.states
@@ -42,15 +43,16 @@ pub record CachesBeside (l : Grouped) (blocks active : List ℕ) (signatures : L
 abbrev pub IsIdIfChanged : ℕ → ℕ → ℕ → Type 0
 IsIdIfChanged old new shown = ((old ≡ new) × (shown ≡ 0)) ⊎ (¬ (old ≡ new) × (shown ≡ new))
 
--- `SignsActive` is about a round that computes the signatures of its active states, which are the states that it
+-- `SignsActive` is about a round that computes the signatures of its active states, which are the states that the round
 -- processes. The list of interned signatures is `before` at the beginning of the computation and `signatures` at the
 -- end. The list of the cached signature IDs of all states is `old` at the beginning and `cached` at the end. The list
--- `signature_ids` has the IDs that are used to split the blocks. `SignsActive` holds under five conditions. First, each
--- signature in `before` has the same ID in `signatures`. Second, all IDs in `cached` and in `signature_ids` are IDs of
--- interned signatures. Third, for each active state, `cached` has the ID of the branching signature of this state.
--- Fourth, for every other state, `cached` has the same ID as `old`. Fifth, consider the entry of an active state in
--- `signature_ids`. If the cached ID of this state has changed, the entry is the new ID. Otherwise, the entry is the ID
--- of the empty signature (`IsIdIfChanged`).
+-- `signature_ids` contains the IDs that are used to split the blocks. `SignsActive` holds if all five of the following
+-- conditions hold. First, each signature in `before` has the same ID in `signatures`. Second, `cached` contains an ID
+-- for each state, and all IDs in `cached` and in `signature_ids` are IDs of interned signatures. Third, for each active
+-- state, `cached` contains the ID of the branching signature of this state. Fourth, for every other state, `cached`
+-- contains the same ID as `old`. Fifth, the entry of each active state in `signature_ids` depends on whether the cached
+-- ID of this state has changed (`IsIdIfChanged`). If the cached ID has changed, the entry is the new ID. Otherwise, the
+-- entry is the ID of the empty signature.
 pub record SignsActive (l : Grouped) (blocks active : List ℕ) (before signatures : List (List (ℕ × ℕ)))
     (old cached signature_ids : List ℕ) : Type 0 where
   pub grow : Grow before signatures

@@ -11,20 +11,20 @@ use Rattle.inert.specs.Signed.{pair_under}
 use Rattle.inert.specs.declared.lens.Step.{Step}
 use Rattle.inert.specs.declared.lens.Step.TheVariants.{Inert, Shows}
 
--- `Under` has a system `l`, the block of each state (`blocks`), and the places (indices) of the transitions that were
--- already visited in the round (`visited`). A visit is a counted read of a transition.
+-- `Under` consists of a system `l`, the block of each state (`blocks`), and the places (indices) of the transitions
+-- that were already visited in the round (`visited`). A visit is a read of a transition that the meter counts.
 pub record Under : Type 0 where
   pub l : Grouped
   pub blocks : List ℕ
   pub visited : List ℕ
 
--- Returns the record `Under` with the system l, the block of each state, and the places (indices) of the transitions
--- that were visited.
+-- Returns the record `Under` that consists of the system l, the block of each state, and the places (indices) of the
+-- transitions that were visited.
 abbrev pub under : Grouped → List ℕ → List ℕ → Under
 under l blocks visited = record { l = l; blocks = blocks; visited = visited }
 
--- Returns the list of the places (indices) of the visited transitions that the argument contains. If the argument is
--- `None`, the result is the empty list.
+-- The argument is `None`, or contains the list of the places (indices) of the visited transitions. Returns this list,
+-- or the empty list if the argument is `None`.
 abbrev pub given : Option (Bor (List ℕ)) → List ℕ
 given None = []
 given (Some visited) = visited.now
@@ -33,17 +33,17 @@ given (Some visited) = visited.now
 abbrev pub remaining : Under → List Triple
 remaining u = remaining_of u.visited u.l.places
 
--- The place of a transition is its index in the list of all transitions. `FitsSystem` holds under two conditions.
--- First, the list `blocks` has exactly one entry for each state of the system. Second, each place in the list `visited`
--- is the place of a transition of the system, and occurs only once in this list.
+-- The place of a transition is its index in the list of all transitions. `FitsSystem` holds if both of the following
+-- conditions hold. First, the list `blocks` contains exactly one entry for each state of the system. Second, each place
+-- in the list `visited` is the place of a transition of the system, and occurs only once in this list.
 pub record FitsSystem (u : Under) : Type 0 where
   pub size : length u.blocks ≡ u.l.states
   pub visited : AreVisited u.l.places u.visited
 
--- `Sees` is the invariant of a `Lens`, which is a view of a system and of the block of each state. It holds under two
--- conditions. First, the blocks and the places (indices) of the visited transitions belong to the system
--- (`FitsSystem`). Second, `id` is the ID of the internal label, or `None` if the label table does not contain the
--- internal label.
+-- `Sees` is the invariant of a `Lens`, which is a view of a system and of the block of each state. It holds if both of
+-- the following conditions hold. First, the blocks and the places (indices) of the visited transitions belong to the
+-- system (`FitsSystem`). Second, `id` is the ID of the internal label, or `None` if the label table does not contain
+-- the internal label.
 pub record Sees (u : Under) (id : Option ℕ) : Type 0 where
   pub fits : FitsSystem u
   pub internal : MatchOption id (¬ Contains u.l.labels internal) (λ k. IsLabelId u.l.labels k internal)

@@ -1,7 +1,7 @@
 //! A depth-first search along inert transitions. It is Gabow's algorithm for strongly connected components (2000). The
-//! stack of the search is divided into components. A component is a set of states that paths of inert transitions
-//! connect in both directions. Inert transitions can also lead from a component to further states. The component stays
-//! on the stack until all these further states are completed.
+//! stack of the search is divided into components. A component is a set of states that can reach each other along inert
+//! transitions. Inert transitions can also lead from a component to further states. The component stays on the stack
+//! until all these further states are completed.
 ghost use Rattle.std.specs.Prelude.{◌≡◌, ◌↔◌, ℕ, ◌<◌, ◌≤◌, [], length, IsTrue, IfOk, OnOk};
 ghost use Rattle.std.specs.List.{All};
 ghost use Rattle.memory.specs.declared.limits.TheConstants.{MOST_STATES};
@@ -18,8 +18,7 @@ use signatures::EMPTY;
 use std::alloc::Global;
 use std::marker::Model;
 
-/// The status of a state in the search: the search has not visited the state yet, or the state is on the stack, or it
-/// is completed.
+/// The status of a state in the search: the state is unvisited, on the stack, or completed.
 #[derive(Clone, Copy)]
 pub(crate) enum VisitState {
     Unvisited,
@@ -51,11 +50,11 @@ pub(crate) struct Root {
     pub items: usize,
 }
 
-/// The data of a search. The vector `stages` has the status of each state. Each frame belongs to a state on the stack,
-/// and records which outgoing transitions of this state are still to be read. The stack is divided into components,
-/// which are sets of states that inert transitions connect in both directions. The root of a component is its first
-/// state on the stack. The items are the pairs (label ID, target block) and the signature IDs that the components have
-/// collected.
+/// The data of a search. The vector `stages` contains the status of each state. Each frame belongs to a state on the
+/// stack, and records which outgoing transitions of this state are still to be read. The stack is divided into
+/// components, which are sets of states that can reach each other along inert transitions. The root of a component is
+/// its first state on the stack. The items are the pairs (label ID, target block) and the signature IDs that the
+/// components have collected.
 pub(crate) struct DepthFirstSearch {
     pub stages: Vec<VisitState>,
     /// The stack: the states that were pushed and are not completed, in the order in which they were pushed.
@@ -72,8 +71,8 @@ pub(crate) struct DepthFirstSearch {
     pub pairs: Vec<(u32, u32)>,
 }
 
-/// `Drop` is implemented explicitly, so that dropping a search takes only one function call. A derived implementation
-/// would make one call for each field.
+/// `Drop` is implemented explicitly, so that dropping a search takes only one function call. The implementation that
+/// `#[derive(Drop)]` generates would make one call for each field.
 impl Drop for DepthFirstSearch {
     fn drop(self) {
         let DepthFirstSearch {
@@ -211,8 +210,8 @@ impl DepthFirstSearch {
     /// there are three cases for the status of its target. An unvisited target is pushed on the stack as a component of
     /// its own. If the target is on the stack, the component of the target and all components above it are merged. If
     /// the target is completed, the component of the current state collects the signature ID of the target. Returns
-    /// whether a state was pushed. The function `begin` also calls this function while the stack is empty. The items
-    /// then belong to the state at which the search begins.
+    /// whether a state was pushed. The function `begin` calls `handle_step` even if the stack is empty. The collected
+    /// items then belong to the state at which the search begins.
     #[inline(always)]
     pub fn handle_step<M: Meter>(&mut self, lens: &Lens<M>, step: Step) -> Result<bool, Memory>
         requires state { (t : ℕ) → step ≡ Inert t → t < lens.now.l.states }
@@ -242,7 +241,7 @@ impl DepthFirstSearch {
     }
 
     /// Each frame belongs to a state on the stack, and records which outgoing transitions of this state are still to be
-    /// read. Returns the last frame. The state to which it belongs is the current state of the search.
+    /// read. Returns the last frame. The state to which the last frame belongs is the current state of the search.
     #[inline(always)]
     pub fn top_frame(&self) -> Frame
         requires { 0 < length self.now.frames }
@@ -253,8 +252,8 @@ impl DepthFirstSearch {
 }
 
 /// The stack is divided into components, which are strongly connected sets of states. The root of a component is its
-/// first state on the stack. This function removes all roots that are above the index `height` of the stack from the
-/// vector `roots`.
+/// first state on the stack. The vector `roots` must be in ascending order of the indices of the roots on the stack.
+/// This function removes from the vector all roots whose index on the stack is greater than `height`.
 fn cut(roots: &mut Vec<Root>, height: u32)
     ensures { CutsRoots height roots.old.items roots.new.items }
 {

@@ -11,9 +11,9 @@ use lts::{Lts, Meter, Visited};
 use std::marker::Model;
 
 /// A view of a system and of the block of each state. The view distinguishes inert transitions from other transitions.
-/// The field `visited` is `None`, or has the places (indices) of the transitions that were already visited in this
-/// round. A visit is a counted read of a transition. If the view reads a transition in `visited` again, this read is
-/// not counted.
+/// The field `visited` is `None`, or contains the places (indices) of the transitions that were already visited in this
+/// round. A visit is a read of a transition that the meter counts. If the view reads a transition in `visited` again,
+/// the meter does not count this read.
 #[derive(Drop)]
 pub struct Lens<'a, M: Meter> {
     l: &'a Lts<M>,
@@ -43,7 +43,7 @@ impl<'a, M: Meter> Model for Lens<'a, M> {
 }
 
 impl<'a, M: Meter> Lens<'a, M> {
-    /// Returns the view of the system `l`, where `blocks` has the block of each state. If the place (index) of a
+    /// Returns the view of the system `l`, where `blocks` contains the block of each state. If the place (index) of a
     /// transition is in `visited`, the meter does not count the reads of this transition.
     pub fn new(l: &'a Lts<M>, blocks: &'a [u32], visited: Option<&'a Visited>) -> Lens<'a, M>
         requires { FitsSystem (under l.now blocks.now (given visited)) }
@@ -57,8 +57,9 @@ impl<'a, M: Meter> Lens<'a, M> {
         }
     }
 
-    /// This call is a lemma: it does nothing at run time. Its contract states the invariant of a view, and laws about
-    /// paths of inert transitions.
+    /// This call is a lemma: it does nothing at run time. A `Lens` is a view of a system and its blocks. The contract
+    /// states that the system satisfies its invariant (`IsLts`), and that there is exactly one block ID for each state.
+    /// It also states laws about paths of inert transitions.
     #[inline(always)]
     pub fn invariants(&self)
         ensures lts { IsLts self.now.l }
@@ -79,9 +80,9 @@ impl<'a, M: Meter> Lens<'a, M> {
         self.blocks
     }
 
-    /// The place of a transition is its index in the list of all transitions. Returns the range of the places of the
-    /// transitions of the state `s`. The first result is the first place of the range, and the second result is the
-    /// first place after the range.
+    /// The place of a transition is its index in the list of all transitions. Returns the range of the places at which
+    /// the transitions of the state `s` are stored. The first result is the first place of the range, and the second
+    /// result is the first place after the range.
     #[inline(always)]
     pub fn row(&self, s: u32) -> (u32, u32)
         requires { s < self.now.l.states }

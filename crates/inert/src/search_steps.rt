@@ -1,5 +1,5 @@
-//! The moves of the depth-first search along inert transitions. The search reads the row of each active state (its
-//! outgoing transitions) once.
+//! The moves of the depth-first search along inert transitions. The search reads the outgoing transitions of each
+//! active state (each state that the round processes) once.
 ghost use Rattle.std.specs.Prelude.{◌≡◌, ◌+◌, ◌-◌, ◌<◌, ◌≤◌, length, take, drop, IfOk, OnOk};
 ghost use Rattle.lts.specs.Meter.{HasRoomFor, Costs};
 ghost use Rattle.inert.specs.Search.{stage_at, unread, IsFinished, AreOpen, AreInternedItems};
@@ -50,9 +50,9 @@ impl DepthFirstSearch {
 
     /// Begins a search at the unvisited state `s`. At first, the outgoing transitions of `s` are read without pushing
     /// `s` on the stack. Suppose that an inert transition of `s` leads to a state that is not completed. Then `s` is
-    /// pushed with a frame, which records which transitions of `s` are still to be read, and the search follows the
-    /// inert transition. If `s` has no such inert transition, `s` is completed as soon as all of its transitions were
-    /// read.
+    /// pushed on the stack and gets a frame, which records the transitions of `s` that are still to be read. The search
+    /// then follows the inert transition. If no inert transition of `s` leads to such a state, `s` is completed as soon
+    /// as all of its transitions were read.
     fn begin<M: Meter>(
         &mut self,
         lens: &Lens<M>,
@@ -150,8 +150,7 @@ impl DepthFirstSearch {
     /// Completes the component at the top of the stack. A component is a strongly connected set of states on the stack,
     /// and the argument `root` is the first state of this component. The function interns the signature of the
     /// component, marks the states of the component as completed, and removes these states from the stack. If the
-    /// search came to the component from another component, that other component collects the ID of the signature as an
-    /// item.
+    /// search came to the component from another component, that other component collects the ID of the signature.
     fn close(&mut self, root: Root, signatures: &mut Interner) -> Result<(), Memory>
         requires open { AreOpen self.old.stages self.old.stack }
         requires height { root.height ≤ length self.old.stack }

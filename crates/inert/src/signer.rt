@@ -20,12 +20,13 @@ use std::marker::Model;
 /// `Signer` is the list of the IDs of the cached signatures.
 pub struct Signer {
     alloc: Global,
-    /// The depth-first search. Between rounds, each state is completed and has the ID of its cached signature.
+    /// The depth-first search. Between rounds, each state is completed, and its status contains the ID of its cached
+    /// signature.
     search: DepthFirstSearch,
 }
 
-/// `Drop` is implemented explicitly, so that dropping a signer takes only one function call. A derived implementation
-/// would make one call for each field.
+/// `Drop` is implemented explicitly, so that dropping a signer takes only one function call. The implementation that
+/// `#[derive(Drop)]` generates would make one call for each field.
 impl Drop for Signer {
     fn drop(self) {
         let Signer {

@@ -19,13 +19,14 @@ use Rattle.lts.proofs.Visits.{visited_Decides, all_below, in_all}
 abbrev bit : List ℕ → ℕ → ℕ
 bit words k = bit_at (slice_index_or words (k / 64) 0) (k % 64)
 
--- The bit set `words` has one bit for each place (index of a transition), and 64 bits in each word. If the bit of the
--- place k is 1, then `words` has the word that contains this bit.
+-- The bit set `words` assigns one bit to each place (index of a transition), and stores 64 bits in each word. If the
+-- bit of the place k is 1, then `words` contains the word with this bit.
 pub bit_within : (words : List ℕ) (k : ℕ) → bit words k ≡ 1 → k / 64 < length words
 bit_within words k one = grind (arith, one, bit_at-zero, get_or_past)
 
--- These lemmas are about a list `places` of visited places (indices of transitions), and a bit set that has the bits of
--- exactly these places. They assume that the place k is appended to `places`, and that the bit of k is set.
+-- These lemmas are about a list `places` of visited places (indices of transitions), and a bit set in which exactly the
+-- bits of these places are 1. The lemmas assume that the place k is appended to `places`, and that the bit of k is set
+-- to 1.
 module _ (places words wide : List ℕ) (k word : ℕ) (have : HaveBits places words)
     (same : (j : ℕ) → slice_index_or wide j 0 ≡ slice_index_or words j 0) (room : k / 64 < length wide)
     (read : word ≡ slice_index_or wide (k / 64) 0) where
@@ -50,9 +51,9 @@ module _ (places words wide : List ℕ) (k word : ℕ) (have : HaveBits places w
         (grind (arith, other, have j, Contains-push_cases places k j, Contains-append_left places (k ∷ []) j))
   ]
 
--- The bit set `words` has one bit for each place (index of a transition). `IsClearing` holds if every bit that is 1 in
--- `words` is the bit of a place that is at the index i or later in the list `places`. This is the case after each word
--- that contains the bit of one of the first i places in `places` was set to zero.
+-- The bit set `words` assigns one bit to each place (index of a transition). `IsClearing` holds if every bit that is 1
+-- in `words` is the bit of a place that is at the index i or later in the list `places`. This is the case after each
+-- word that contains the bit of one of the first i places in `places` was set to zero.
 abbrev pub IsClearing : List ℕ → List ℕ → ℕ → Type 0
 IsClearing places words i = (k : ℕ) → bit words k ≡ 1
     → (j : ℕ) × (i ≤ j) × (j < length places) × (get_or places j 0 ≡ k)
@@ -80,8 +81,9 @@ module _ (below : ℕ) (places words : List ℕ) (k : ℕ) (have : HaveBits plac
       grind (arith, Contains-append_cases (range_with_len 0 below) places k c, high, have k, low))
       (λ one. Contains-append_right (range_with_len 0 below) places k ((have k).0 one)) (visited_Decides all k))
 
-  -- The bit set has one bit for each place (index of a transition), and 64 bits in each word. Let k be a place that is
-  -- not less than `below`. If the bit set has no word for the bit of k, then k was not visited.
+  -- The bit set assigns one bit to each place (index of a transition), and stores 64 bits in each word. Let k be a
+  -- place that is not less than `below`. If the bit set has too few words to contain the bit of k, then k was not
+  -- visited.
   pub none_past : length words ≤ k / 64 → is_visited all k ≡ false
   none_past past = sym bit_tells ∙ ne_eqb _ 1 (λ (one : bit words k ≡ 1). omega (arith, past, bit_within words k one))
 

@@ -7,7 +7,8 @@ use Rattle.std.proofs.lemmas.List.Elements.{Contains-get_or, All-contains, All-c
 use Rattle.std.proofs.lemmas.List.Elements.{filter_passes}
 use Rattle.theory.proofs.CallerLemmas.{contains_here, contains_there, contains_cases, contains_none}
 
--- If the list xs contains x, then the list that results from applying f to each element of xs contains f x.
+-- If the list xs contains the element x, then the list that results from applying the function f to each element of xs
+-- contains f x.
 pub contains_mapped : {X Y : Type 0} (f : X → Y) (xs : List X) (x : X) → Contains xs x → Contains (map f xs) (f x)
 contains_mapped f xs x c = (c.0, omega (arith, c.1, length-map xs f), get_or-map f xs c.0 x (f x) c.1 ∙ ap f c.2)
 
@@ -16,7 +17,7 @@ pub mapped_contains : {X Y : Type 0} (f : X → Y) (xs : List X) (y : Y) → Con
 mapped_contains {X} {Y} f xs y c = let P : Y → Type 0 = λ z. (x : X) × Contains xs x × (f x ≡ z) in
     All-contains P (map f xs) y (All-map P f xs (λ k d l. (get_or xs k d, Contains-get_or xs k d l, refl))) c
 
--- If the list xs contains x, and p holds for x, then the list filtered by p contains x.
+-- If the list xs contains the element x, and the property p holds for x, then the list xs filtered by p contains x.
 pub contains_passing : {X : Type 0} (p : X → Bool) (xs : List X) (x : X) → Contains xs x → p x ≡ true →
     Contains (filter p xs) x
 contains_passing p [] x c h = absurd (contains_none x c)

@@ -1,5 +1,5 @@
--- Lemmas about the disjoint union of two systems. It is built by appending the triples (source, label ID, target) of
--- both systems to one list, with one label table for both systems.
+-- Lemmas about the disjoint union of two systems. The union is built by appending the triples (source, label ID,
+-- target) of both systems to one list, with one label table for both systems.
 use Rattle.std.proofs.Common.{rules, ◌≡◌, ◌∙◌, ℕ, suc, ◌+◌, ◌-◌, ◌<◌, ◌≤◌, List, [], ◌∷◌, ◌++◌, length, map, take, drop}
 use Rattle.std.proofs.Common.{Contains, sym, ap, subst, refl, inl, inr, arith}
 use Rattle.std.proofs.lemmas.Grind.{common_steps}
@@ -52,10 +52,11 @@ module _ (old new : List (List ℕ)) (states : ℕ) (es : List Triple) (e : Trip
     ]
   ]
 
-  -- The triples of a union represent the transitions of the system l with `shift` added to the source and the target of
-  -- each transition. Suppose that the triples es represent the first k transitions of l, after the triples of the
-  -- previous system. Suppose also that the triple e represents the transition at the index k in the list of all
-  -- transitions of l. Then es followed by e represent the first k + 1 transitions of l.
+  -- States are numbers. The triples of a union represent the transitions of the system l with the number `shift` added
+  -- to the source and the target of each transition. Suppose that the triples es represent the first k transitions of
+  -- l, after the triples of the previous system. Suppose also that the triple e represents the transition at the index
+  -- k in the list of all transitions of l. Then es followed by e represent the first k + 1 transitions of l, and still
+  -- satisfy `IsJoined`.
   pub joins_next : (l0 : List (List ℕ)) (e0 : List Triple) (shift : ℕ) (l : Grouped) (k : ℕ)
       → states ≡ shift + l.states → k < length l.places → IsTriple (length l.labels) l.states (place_at l.places k)
       → source_of e ≡ shift + source_of (place_at l.places k) → a ≡ text_of l.labels (label_of (place_at l.places k))
@@ -77,8 +78,8 @@ pub AddsShifted-length : {X : Type 0} (shift : ℕ) (f : X → Transition) (us :
     (e0 e1 : List Triple) → AddsShifted shift (map f us) l0 e0 l1 e1 → length e1 ≡ length e0 + length us
 AddsShifted-length shift f us l0 l1 e0 e1 h = let size = ap length h in search (rules, size, length-append, length-map)
 
--- If i is at most j, the first j elements of a list are the first i elements, followed by the elements from the index i
--- up to but excluding the index j.
+-- If i is at most j, the first j elements of a list are the first i elements, followed by the elements at the indices k
+-- with i <= k < j.
 pub take-split : {X : Type 0} (i j : ℕ) (xs : List X) → i ≤ j → take j xs ≡ take i xs ++ take (j - i) (drop i xs)
 take-split i j xs h = same_lists _ _ (search (rules, places)) (λ k d l. grind (arith, places))
 

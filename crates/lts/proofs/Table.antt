@@ -1,5 +1,5 @@
--- Lemmas about the label table, which is modelled as a list of labels. They state what a search for a label returns,
--- and which labels the table has after a label was appended.
+-- Lemmas about the label table, which is modelled as a list of labels. The lemmas state what a search for a label
+-- returns, and which labels the table contains after a label was appended.
 use Rattle.std.proofs.Common.{rules, ◌≡◌, ℕ, ◌+◌, ◌<◌, Bool, false, cond, ltb, List, [], ◌∷◌, ◌++◌, length, map, Some}
 use Rattle.std.proofs.Common.{Contains, sym, ap, refl}
 use Rattle.std.specs.List.{list_any, position, prefix_len}
@@ -13,8 +13,11 @@ use Rattle.memory.specs.declared.limits.TheConstants.{MOST_LABELS}
 use Rattle.std.proofs.lemmas.List.Folds.{list_any_at}
 use Rattle.lts.specs.Labels.{IsLabelId, IsTable}
 
--- Searching a mapped list for an element for which p holds gives the same result as searching the original list for an
--- element for which p (f x) holds.
+-- Let f be a function, and let p be a property. These lemmas compare the list `map f xs`, which results from applying f
+-- to each element of xs, with the list xs. Searching `map f xs` for an element with the property p has the same result
+-- as searching xs for an element x such that p (f x) holds. By the first lemma, the longest prefix of `map f xs` whose
+-- elements have the property p is as long as the longest prefix of xs such that p (f x) holds for each element x of
+-- this prefix.
 prefix_len-map : {X Y : Type 0} (p : Y → Bool) (f : X → Y) (xs : List X) →
     prefix_len p (map f xs) ≡ prefix_len (λ x. p (f x)) xs
 prefix_len-map p f [] = refl

@@ -1,6 +1,6 @@
--- Lemmas about the set of visited transitions. A visit is a counted read of a transition. If a transition was visited
--- before and is read again, the second read is not counted as another visit. The lemmas count the visits that are
--- needed to read all transitions of a state or of the system.
+-- Lemmas about the set of visited transitions. A visit is a read of a transition that the meter counts. If a transition
+-- was visited before and is read again, the meter does not count the second read as another visit. The lemmas count the
+-- visits that are needed to read all transitions of a state or of the system.
 use Rattle.std.proofs.Common.{rules, ◌≡◌, ◌∙◌, ◌↔◌, ℕ, suc, ◌+◌, ◌-◌, ◌<◌, ◌≤◌, Bool, true, false, not, cond, ◌&&◌, eqb}
 use Rattle.std.proofs.Common.{List, [], ◌∷◌, ◌++◌, length, map, Contains, sym, ap, subst, refl, arith}
 use Rattle.std.specs.Bool.{Decides}
@@ -32,8 +32,9 @@ in_range : (P : ℕ → Type 0) (a n : ℕ) → ((k : ℕ) → a ≤ k → k < a
 in_range P a n h i d l = let below : i < n = omega (arith, l, length-range_with_len a n) in
     subst P (sym (get_or-range_with_len a n i d below)) (h (a + i) (omega arith) (omega arith))
 
--- Let p hold exactly for the numbers from `start` up to but excluding `end`. Then the numbers below n for which p holds
--- are exactly the numbers in this range.
+-- Suppose that `start` is at most `end`, and that `end` is at most n. Suppose also that, for each number k less than n,
+-- p holds for k if and only if `start` <= k < `end`. Then filtering the numbers less than n by p results in the list of
+-- the numbers from `start` to `end` - 1.
 filter-range : (p : ℕ → Bool) (start end n : ℕ) → start ≤ end → end ≤ n →
     ((k : ℕ) → k < n → (p k ≡ true) ↔ ((start ≤ k) × (k < end))) →
     filter p (range_with_len 0 n) ≡ range_with_len start (end - start)
@@ -53,7 +54,7 @@ filter-range p start end n forward within inside =
       append-nil,
     )
 
--- Reading an empty range of transitions needs no visit (counted read of a transition).
+-- Reading an empty range of transitions needs no visit (a read of a transition that the meter counts).
 pub price_none : (visited : List ℕ) (k : ℕ) → price_between visited k k ≡ 0
 price_none visited k = let none : k - k ≡ 0 = omega arith in ap (λ n. sum_by (price visited) (range_with_len k n)) none
 
@@ -78,8 +79,8 @@ price-sum : (p : ℕ → Bool) (ks : List ℕ) → length (filter (λ k. not (p 
 price-sum p [] = refl
 price-sum p (k ∷ ks) = let rest = price-sum p ks in let more = sum_by-cons (λ k. cond (p k) 0 1) k ks in grind arith
 
--- A visit is a counted read of a transition. The number of visits that are needed to read all transitions of the state
--- s equals the number of transitions of s that were not visited before.
+-- A visit is a read of a transition that the meter counts. The number of visits that are needed to read all transitions
+-- of the state s equals the number of transitions of s that were not visited before.
 pub row_left : (visited : List ℕ) (places : List Triple) (s start end : ℕ) → IsRow places s start end →
     length (row_of s (remaining_of visited places)) ≡ price_between visited start end
 row_left visited places s start end row = let fresh : ℕ → Bool = λ k. not (is_visited visited k) in

@@ -13,8 +13,9 @@ pub record IsLabelId (labels : List (List ℕ)) (k : ℕ) (a : List ℕ) : Type 
   pub below : k < length labels
   pub text : text_of labels k ≡ a
 
--- `IsTable` is the invariant of label tables. It holds under three conditions. First, each entry of the table is a
--- valid label. Second, different IDs have different labels. Third, there are at most `MOST_LABELS` labels.
+-- `IsTable` is the invariant of label tables. It holds if all three of the following conditions hold. First, each entry
+-- of the table is a valid label. Second, different IDs have different labels. Third, there are at most `MOST_LABELS`
+-- labels.
 pub record IsTable (labels : List (List ℕ)) : Type 0 where
   pub each_label : All IsLabel labels
   pub different : (j k : ℕ) → j < length labels → k < length labels → text_of labels j ≡ text_of labels k → j ≡ k

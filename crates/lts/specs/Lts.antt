@@ -1,5 +1,5 @@
--- Defines the model of a system in memory. The model has the label table, and the transitions with label IDs, grouped
--- by source.
+-- Defines the model of a system in memory. The model contains the label table, and the transitions as triples (source,
+-- label ID, target), which are grouped by source.
 use Rattle.std.specs.Prelude.{◌≡◌, ◌↔◌, ℕ, ◌+◌, ◌<◌, ◌≤◌, ◌==◌, nat_lt, List, length, map}
 use Rattle.std.specs.List.{All, Contains, slice_index_or, slice_range, filter, flat_map, range_with_len}
 use Rattle.std.specs.List.Sorted.{IsNonDecreasingBy, IsPermutation}
@@ -7,7 +7,7 @@ use Rattle.theory.specs.System.{System, Transition, IsSystem}
 use Rattle.memory.specs.declared.limits.TheConstants.{MOST_STATES, MOST_TRANSITIONS}
 use Rattle.lts.specs.Labels.{IsTable, text_of}
 
--- A triple represents a transition. It has the source of the transition, the ID of its label, and its target.
+-- A triple represents a transition. It consists of the source of the transition, the ID of its label, and its target.
 abbrev pub Triple : Type 0
 Triple = ℕ × ℕ × ℕ
 
@@ -23,21 +23,21 @@ label_of e = e.1
 abbrev pub target_of : Triple → ℕ
 target_of e = e.2
 
--- `Grouped` is the model of an `Lts`, which is a system in memory. It has the first state, the number of states, the
--- label table, and the list of all transitions. The place of a transition is its index in this list.
+-- `Grouped` is the model of an `Lts`, which is a system in memory. It consists of the first state, the number of
+-- states, the label table, and the list of all transitions. The place of a transition is its index in this list.
 pub record Grouped : Type 0 where
   pub first : ℕ
   pub states : ℕ
   pub labels : List (List ℕ)
   pub places : List Triple
 
--- The list `places` has all transitions of a system. Returns the transition at the place k, which is the index of this
--- transition in the list.
+-- The list `places` contains all transitions of a system. Returns the transition at the place k, which is the index of
+-- this transition in the list.
 abbrev pub place_at : List Triple → ℕ → Triple
 place_at places k = slice_index_or places k (0, 0, 0)
 
--- Returns the transition that the triple e represents. The triple has the ID of a label in the table `labels`, and the
--- transition has the bytes of this label.
+-- Returns the transition that the triple e represents. The triple contains the ID of a label in the table `labels`, and
+-- the transition contains the bytes of this label.
 abbrev pub transition_of : List (List ℕ) → Triple → Transition
 transition_of labels e = record { source = source_of e; label = text_of labels (label_of e); target = target_of e }
 
@@ -51,21 +51,22 @@ system_from first states labels es =
 abbrev pub system_of : Grouped → System
 system_of g = system_from g.first g.states g.labels g.places
 
--- Returns the row of the state s: the transitions in es with the source s, in the order of es.
+-- Returns the row of the state s. The row consists of the transitions in the list es with the source s, in the same
+-- order as in es.
 abbrev pub row_of : ℕ → List Triple → List Triple
 row_of s es = filter (λ e. source_of e == s) es
 
--- Returns the number of transitions in es whose source is less than s.
+-- Returns the number of transitions in the list es whose source is less than the number s.
 abbrev pub before : ℕ → List Triple → ℕ
 before s es = length (filter (λ e. nat_lt (source_of e) s) es)
 
--- Groups the transitions in es by source. For each of the states from 0 to `states` - 1 in ascending order, the result
--- has the transitions in es with this source.
+-- Groups the transitions in the list es by source. The result contains, for each of the states from 0 to `states` - 1
+-- in ascending order, the transitions in es whose source is this state.
 abbrev pub grouped : ℕ → List Triple → List Triple
 grouped states es = flat_map (λ s. row_of s es) (range_with_len 0 states)
 
--- `IsGrouping` holds if `places` has the transitions of es in ascending order of their sources. Transitions with the
--- same source are in the same order as in es.
+-- `IsGrouping` holds if the list `places` contains the transitions of the list es in ascending order of their sources.
+-- Transitions with the same source are in the same order as in es.
 pub record IsGrouping (es places : List Triple) : Type 0 where
   pub ascending : IsNonDecreasingBy source_of places
   pub rows : (s : ℕ) → row_of s places ≡ row_of s es
@@ -81,8 +82,8 @@ pub record Groups (A B : System) : Type 0 where
   pub rows : (s : ℕ) → filter (λ e. e.source == s) B.transitions ≡ filter (λ e. e.source == s) A.transitions
   pub same : IsPermutation A.transitions B.transitions
 
--- `IsTriple` holds if the source and the target of the transition e are less than `states`, and its label ID is less
--- than `labels`.
+-- States and label IDs are numbers. `IsTriple` holds if the source and the target of the transition e are less than
+-- `states`, and its label ID is less than `labels`.
 pub record IsTriple (labels states : ℕ) (e : Triple) : Type 0 where
   pub source : source_of e < states
   pub label : label_of e < labels
@@ -98,10 +99,10 @@ pub record InRange (labels first states : ℕ) (es : List Triple) : Type 0 where
   pub few_transitions : length es ≤ MOST_TRANSITIONS
   pub each : All (IsTriple labels states) es
 
--- `IsLts` is the invariant of an `Lts`, which is a system in memory with the model g. It holds under four conditions.
--- First, the label table is valid (`IsTable`). Second, all states and label IDs are in range (`InRange`). Third, the
--- transitions are in ascending order of their sources. Fourth, the system that g represents is well-formed
--- (`IsSystem`).
+-- `IsLts` is the invariant of an `Lts`, which is a system in memory with the model g. It holds if all four of the
+-- following conditions hold. First, the label table is valid (`IsTable`). Second, all states and label IDs are in range
+-- (`InRange`). Third, the transitions are in ascending order of their sources. Fourth, the system that g represents is
+-- well-formed (`IsSystem`).
 pub record IsLts (g : Grouped) : Type 0 where
   pub table : IsTable g.labels
   pub in_range : InRange (length g.labels) g.first g.states g.places
@@ -122,8 +123,9 @@ pub record IsBuilt (start n : ℕ) (table : List (List ℕ)) (es : List Triple) 
 abbrev pub IsUsedLabel : Grouped → ℕ → Type 0
 IsUsedLabel g k = (e : Triple) × Contains g.places e × (label_of e ≡ k)
 
--- `IsRow` holds if the transitions with the source s are exactly the transitions at the places (indices) from `start`
--- up to but excluding `end`.
+-- `IsRow` holds if the transitions with the source s are exactly the transitions at the places (indices) k with `start`
+-- <= k < `end`. The number of transitions whose source is less than s must be `start`, and the number of transitions
+-- whose source is at most s must be `end`.
 pub record IsRow (places : List Triple) (s start end : ℕ) : Type 0 where
   pub begins : start ≡ before s places
   pub ends : end ≡ before (s + 1) places

@@ -22,19 +22,19 @@ pub record FitsBehind (n m : ℕ) (l : Grouped) : Type 0 where
   pub states : n + l.states ≤ MOST_STATES
   pub transitions : m + length l.places ≤ MOST_TRANSITIONS
 
--- `IsJoined` holds for the part of a union that is already built, which has `states` states, the triples es and the
--- label table `labels`. It holds under three conditions. First, there are at most `MOST_STATES` states. Second, the
--- states and label IDs of all triples are in range. Third, each label in the table is the label of some triple. So the
--- number of labels is at most the number of triples.
+-- `IsJoined` is about the part of a union that is already built. This part consists of `states` states, the triples es
+-- and the label table `labels`. `IsJoined` holds if all three of the following conditions hold. First, there are at
+-- most `MOST_STATES` states. Second, the states and label IDs of all triples are in range. Third, each label in the
+-- table is the label of some triple. So the number of labels is at most the number of triples.
 pub record IsJoined (labels : List (List ℕ)) (states : ℕ) (es : List Triple) : Type 0 where
   pub few_states : states ≤ MOST_STATES
   pub each : All (IsTriple (length labels) states) es
   pub carried : (k : ℕ) → k < length labels → (e : Triple) × Contains es e × (label_of e ≡ k)
   pub few : length labels ≤ length es
 
--- `AddsShifted` holds if the triples es represent the same transitions as the triples `old_es`, followed by the
--- transitions ts with `shift` added to each of their states. The label IDs in es refer to the table `labels`, and the
--- label IDs in `old_es` refer to the table `old_labels`.
+-- States are numbers. `AddsShifted` holds if the triples es represent the same transitions as the triples `old_es`,
+-- followed by the transitions ts with the number `shift` added to each of their states. The label IDs in es refer to
+-- the table `labels`, and the label IDs in `old_es` refer to the table `old_labels`.
 abbrev pub AddsShifted : ℕ → List Transition → List (List ℕ) → List Triple → List (List ℕ) → List Triple → Type 0
 AddsShifted shift ts old_labels old_es labels es =
     map (transition_of labels) es ≡ map (transition_of old_labels) old_es ++ map (shifted shift) ts

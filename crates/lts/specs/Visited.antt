@@ -1,6 +1,6 @@
 -- The place of a transition is its index in the list of all transitions. This file defines the list of the places of
--- the transitions that were visited in a round. A visit is a counted read of a transition. This file also defines the
--- number of visits that are needed to read the other transitions.
+-- the transitions that were visited in a round. A visit is a read of a transition that the meter counts. This file also
+-- defines the number of visits that are needed to read given transitions, some of which may already have been visited.
 use Rattle.std.specs.Prelude.{◌≡◌, ◌↔◌, ℕ, ◌-◌, ◌/◌, ◌%◌, ◌<◌, ◌==◌, Bool, not, cond, List, length, map, Contains}
 use Rattle.std.specs.Prelude.{slice_index_or}
 use Rattle.std.specs.List.{All, IsDistinct, list_any, filter, sum_by, range_with_len}
@@ -17,13 +17,13 @@ pub record AreVisited (places : List Triple) (visited : List ℕ) : Type 0 where
 abbrev pub is_visited : List ℕ → ℕ → Bool
 is_visited visited k = list_any (λ j. k == j) visited
 
--- Returns the number of visits (counted reads) that are needed to read the transition at the place (index) k. The
--- number is 0 if this transition was visited before, and 1 otherwise.
+-- Returns the number of visits (reads that the meter counts) that are needed to read the transition at the place
+-- (index) k. The number is 0 if this transition was visited before, and 1 otherwise.
 abbrev pub price : List ℕ → ℕ → ℕ
 price visited k = cond (is_visited visited k) 0 1
 
--- Returns the number of visits (counted reads) that are needed to read the transitions at the places (indices) from
--- `from` up to but excluding `to`.
+-- Returns the number of visits (reads that the meter counts) that are needed to read the transitions at the places
+-- (indices) k with `from` <= k < `to`.
 abbrev pub price_between : List ℕ → ℕ → ℕ → ℕ
 price_between visited from to = sum_by (price visited) (range_with_len from (to - from))
 

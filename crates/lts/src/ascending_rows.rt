@@ -19,8 +19,8 @@ const FIRST_CAPACITY: usize = 1024;
 
 pub(crate) struct Rows {
     /// The end of the row of a state is the index after its last transition. Let s be the source of the transition that
-    /// was appended last. This vector has the ends of the rows of the states 0 to s - 1. All transitions after these
-    /// rows have the source s.
+    /// was appended last. This vector contains the ends of the rows of the states 0 to s - 1. All transitions after
+    /// these rows have the source s.
     ends: Vec<u32>,
     /// The label ID and the target of each transition.
     pairs: Vec<(u32, u32)>,
@@ -89,8 +89,8 @@ impl Rows {
         Ok(true)
     }
 
-    /// The function returns two lists. The first list has, for each of the `states` states, the index after its last
-    /// transition. The second list has the label ID and target of each transition.
+    /// The function returns two lists. The first list contains, for each of the `states` states, the index after its
+    /// last transition. The second list contains the label ID and target of each transition.
     pub(crate) fn finish(self, states: u32) -> Result<(Vec<u32>, Vec<(u32, u32)>), AllocError>
         requires few { length self ≤ MOST_TRANSITIONS }
         requires sources { All (λ x. source_of x < states) self }
@@ -131,10 +131,10 @@ fn end_rows(ends: &mut Vec<u32>, source: usize, end: u32) -> Result<(), AllocErr
     ends.resize(source, end)
 }
 
-/// The row of a state has its outgoing transitions. The list `ends` has, for each state less than its length, the index
-/// after the last transition of the row. Returns the first state that is at least `from` and whose row ends after the
-/// index `place`. The transition at this index is in the row of this state. If no row in `ends` ends after `place`, the
-/// result is the length of `ends`.
+/// The row of a state consists of its outgoing transitions. The list `ends` contains, for each state less than its
+/// length, the index after the last transition of the row. No row of a state less than `from` may end after the index
+/// `place`. Returns the first state that is at least `from` and whose row ends after this index. The transition at this
+/// index is in the row of this state. If no row in `ends` ends after `place`, the result is the length of `ends`.
 fn row_at(ends: &[u32], from: usize, place: usize) -> usize
     requires passed { (s : ℕ) → s < from → slice_index ends.now s ≤ place }
     requires within { from ≤ length ends.now }

@@ -21,10 +21,10 @@ pub fn fits_together<M: Meter>(a: &Lts<M>, b: &Lts<M>) -> bool
     a.states() + b.states() <= MOST_STATES && a.edges() + b.edges() <= MOST_TRANSITIONS
 }
 
-/// Builds the disjoint union of `a` and `b`. The number of states of `a` is added to each state of `b`, and the first
-/// state of the union is the first state of `a`. A label that occurs in both systems is stored only once. The label
-/// table of the union contains only labels of transitions. The call makes one visit (counted read) for each transition
-/// of both systems.
+/// Builds the disjoint union of `a` and `b`. States are numbers: to keep the states of the two systems apart, the
+/// number of states of `a` is added to each state of `b`. The first state of the union is the first state of `a`. A
+/// label that occurs in both systems is stored only once. The label table of the union contains only labels of
+/// transitions. The call makes one visit (a read that the meter counts) for each transition of both systems.
 pub fn union<M: Meter>(alloc: Global, a: &Lts<M>, b: &Lts<M>, m: &mut M) -> Result<Lts<M>, Memory>
     requires fit { FitTogether a.now b.now }
     requires room { HasRoomFor (M.counted m.old) 0 (length a.now.places + length b.now.places) }
@@ -66,8 +66,8 @@ struct Joined {
 }
 
 impl Joined {
-    /// Appends the transitions of one of the two systems to the union. The list `guesses` has one ID for each label of
-    /// this system. The ID is a guess: the label may have this ID in the label table of the union.
+    /// Appends the transitions of one of the two systems to the union. The list `guesses` contains one ID for each
+    /// label of this system. The ID is a guess: the label may have this ID in the label table of the union.
     fn append<M: Meter>(
         &mut self,
         part: &Part<M>,
@@ -109,9 +109,9 @@ impl Joined {
 }
 
 /// Returns the ID of `label` in the label table of the union. If the table does not contain `label`, the label is
-/// appended. The number `there` is the ID of `label` in the label table of its own system. The list `guesses` has, at
-/// the index `there`, the ID that `label` may have in the union. If `label` has this ID, the table need not be
-/// searched.
+/// appended. The number `there` is the ID of `label` in the label table of the system that the label comes from. The
+/// list `guesses` contains, at the index `there`, the ID that `label` may have in the union. If `label` has this ID,
+/// the table need not be searched.
 fn label_id(
     labels: &mut Labels,
     guesses: &mut [u32],

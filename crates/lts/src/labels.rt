@@ -24,9 +24,9 @@ pub fn is_label(b: &[u8]) -> bool
 /// A list of different labels. The ID of a label is its index in the list.
 pub struct Labels {
     alloc: Global,
-    /// The labels are the keys of a map without values. A set would do too, but the crate that defines sets has one and
-    /// a half times as many statements as the crate that defines maps. The prover loads all these statements for every
-    /// crate that depends on this crate.
+    /// The labels are the keys of a map without values. A set would suffice, but the crate that defines sets contains
+    /// one and a half times as many statements as the crate that defines maps. The prover loads all these statements
+    /// for every crate that depends on this crate.
     texts: IndexMap<Vec<u8>, ()>,
 }
 

@@ -4,8 +4,8 @@
 //!
 //! If a call of this crate returns an error, the error is `Memory`, which means that an allocation failed.
 //!
-//! Most types implement `Drop` explicitly, so that dropping a value takes only one function call. A derived
-//! implementation would make one call for each field.
+//! Most types implement `Drop` explicitly, so that dropping a value takes only one function call. The implementation
+//! that `#[derive(Drop)]` generates would make one call for each field.
 #![tactic(auto)]
 
 mod ascending_rows;

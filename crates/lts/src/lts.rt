@@ -39,7 +39,7 @@ pub struct Lts<M: Meter> {
     /// For each state, the index after its last transition. The transitions of a state begin where the transitions of
     /// the previous state end.
     ends: Vec<u32>,
-    /// The label ID and the target of each transition, in the order in which the transitions are grouped by source.
+    /// The label ID and the target of each transition, in the order of the transitions, which are grouped by source.
     pairs: Vec<(u32, u32)>,
     meter: PhantomData<M>,
 }
@@ -87,7 +87,8 @@ impl<M: Meter> Lts<M> {
     }
 
     /// Builds a system with the label table `l`, the first state `first`, `states` states and the transitions `e`. The
-    /// transitions are grouped by source. If they are already in ascending order of their sources, they are not copied.
+    /// transitions are grouped by source. If the transitions were appended to `e` in ascending order of their sources,
+    /// they are not copied.
     pub fn from_transitions(
         l: Labels,
         first: u32,
@@ -186,8 +187,8 @@ impl<M: Meter> Lts<M> {
         between(&self.ends, s as usize, s as usize)
     }
 
-    /// Returns the label ID and the target of each transition. A call of this function does not count as a visit of any
-    /// transition.
+    /// Returns the label ID and the target of each transition. A meter counts a call of `edge` as a visit of a
+    /// transition, but does not count a call of `pairs`.
     pub(crate) fn pairs(&self) -> &[(u32, u32)]
         ensures { result.now ≡ map pair_of self.now.places }
     {
@@ -210,9 +211,9 @@ impl<M: Meter> Lts<M> {
     }
 }
 
-/// A visit is a counted read of a transition. At the end of a round, this function makes further visits and ignores
-/// their results, so that the number of visits in the round equals the number of transitions. The argument `before` is
-/// the number of visits that the meter had counted before the round began.
+/// A visit is a read of a transition that the meter counts. At the end of a round, this function makes further visits
+/// until the number of visits in the round equals the number of transitions. The function ignores the results of these
+/// visits. The argument `before` is the number of visits that the meter had counted before the round began.
 pub fn visit_rest<M: Meter>(l: &Lts<M>, before: u128, m: &mut M)
     requires begun { before ≤ (M.counted m.old).visits }
     requires few { (M.counted m.old).visits ≤ before + length l.now.places }

@@ -1,5 +1,6 @@
-//! The set of transitions that were visited in a round. A visit is a counted read of a transition. A round may need a
-//! transition twice: first to find its source, and then to read its target. Only the first read counts as a visit.
+//! The set of transitions that were visited in a round. A visit is a read of a transition that the meter counts. A
+//! round may need a transition twice: first to find its source, and then to read its target. Only the first read counts
+//! as a visit.
 ghost use Rattle.std.specs.Prelude.{◌≡◌, ◌↔◌, ℕ, ◌^◌, ◌<◌, ◌≤◌, ◌++◌, ◌∷◌, [], true, length, slice_index_or};
 ghost use Rattle.std.specs.Prelude.{IsTrue, OnOk, IfOk, Contains};
 ghost use Rattle.std.specs.List.{range_with_len};
@@ -17,12 +18,13 @@ use std::marker::Model;
 const BITS: u32 = 64;
 
 /// The set of the places (indices) of the transitions that were visited in a round. A visit is a read that the meter
-/// counts. Only a visit adds a place to the set. If a transition was already visited in this round, reading the
-/// transition again is not counted.
+/// counts. Only a visit adds a place to the set. If the place of a transition is in the set, the meter does not count
+/// further reads of this transition.
 pub struct Visited {
     /// All transitions at places (indices) less than `below` were visited.
     below: u32,
-    /// The places (indices) of all other visited transitions, in the order in which these transitions were visited.
+    /// The places (indices) of the visited transitions that are not less than `below`, in the order in which these
+    /// transitions were visited.
     places: Vec<u32>,
     /// A bit set, with one bit for each place (index of a transition). The lowest bit of the first word belongs to the
     /// place 0. The bit of a place is set if and only if the place is in `places`. If a place is beyond the last word,
@@ -94,7 +96,8 @@ impl Visited {
     }
 
     /// Visits the transition at the place (index) `k`: reads the transition, counts this read on the meter `m`, and
-    /// adds `k` to the set. If the method `edge` reads this transition later in the round, that read is not counted.
+    /// adds `k` to the set. If `Visited::edge` reads this transition later in the round, the meter does not count that
+    /// read.
     #[inline(always)]
     pub fn visit<M: Meter>(&mut self, l: &Lts<M>, k: u32, m: &mut M) -> Result<(), Memory>
         requires place { k < length l.now.places }
@@ -127,7 +130,7 @@ impl Visited {
             (price self.now k) }
     {
         // Reading a visited transition and visiting a transition are separate branches, so that the compiler can keep
-        // the number of visits (counted reads) in a register.
+        // the number of visits (reads that the meter counts) in a register.
         if self.has(k) {
             return self.read_again(l, k);
         }
@@ -158,7 +161,7 @@ impl Visited {
     }
 }
 
-/// Appends zeros to `words`, so that `words` has an element at the index `word`.
+/// Appends zeros to `words` until `words` contains an element at the index `word`.
 #[inline(never)]
 fn widen(words: &mut Vec<u64>, word: usize) -> Result<(), Memory>
     requires { (length words.old.items ≤ word) × (word < 2 ^ 32) }
@@ -170,8 +173,8 @@ fn widen(words: &mut Vec<u64>, word: usize) -> Result<(), Memory>
     Ok(())
 }
 
-/// The bit set has one bit for each place, which is the index of a transition. This function sets each word that
-/// contains the bit of a place in `places` to zero. All other words must already be zero.
+/// The bit set assigns one bit to each place, which is the index of a transition. This function sets to zero each word
+/// that contains the bit of a place in `places`. All other words must already be zero.
 fn clear_bits(words: &mut [u64], places: &[u32])
     requires { HaveBits places.now words.old }
     ensures { HaveBits [] words.new }

@@ -17,6 +17,6 @@ pub record InSpan (spans : List (ℕ × ℕ)) (b i : ℕ) : Type 0 where
   pub high : i < to spans b
 
 -- Returns the length of the span of the block b. The span is the range of the indices at which the states of b are
--- stored, so that its length is the number of states of b.
+-- stored, and therefore the length of the span is the number of states of b.
 abbrev pub span_size : List (ℕ × ℕ) → ℕ → ℕ
 span_size spans b = to spans b - from spans b

@@ -5,7 +5,7 @@
 //!
 //! A round of refinement processes the active states, and gives each of them the ID of its signature. Every other state
 //! has the empty signature, whose ID is 0. A split separates two states of a block if their signature IDs differ. The
-//! following example splits two blocks of eight states in all:
+//! following example splits two blocks, which together contain eight states:
 //!
 //! ```text
 //! active         0           4  5  6       the active states
@@ -35,20 +35,22 @@
 //! * After `with_positions` is called, the position of each state in `states` is stored (`position`), and rounds
 //!   usually process few states. First, the states whose signature is not empty are moved to the beginning of the span
 //!   of their block (`gather`). Then only the moved states are sorted (`split_affected`). All other states of the block
-//!   have the empty signature. They form one part of the block, and are not sorted. So the time for a split depends on
-//!   the number of active states, which are the states that the round processes (Valmari and Lehtinen 2008).
+//!   have the empty signature. These other states form one part of the block, and are not sorted. So the time for a
+//!   split depends on the number of active states, which are the states that the round processes (Valmari and Lehtinen
+//!   2008).
 //!
 //! Between two splits, each span contains exactly the states of its block, and the spans are disjoint and cover
 //! `states` (`IsLayout`). During a split, states are moved only within the span of their block, and `cut` does not move
 //! any state. So the block of a state is always the block whose span contains the state.
 //!
-//! `AreSplitBlocks` states that the new blocks are the split of the old blocks (`splits`). It also states two further
-//! facts about the old and the new blocks.
+//! `AreSplitBlocks` states that the new blocks are the split of the old blocks (`splits`). It also states the following
+//! two facts about the old and the new blocks.
 //!
-//! * A new block has at most half of the states of its old block (`halves`). The parts of a block are the sets of its
-//!   states with the same signature, and the largest part keeps the block ID (Hopcroft 1971). So if there are n states,
-//!   each of them gets a new block ID at most log2 n times, however many rounds there are. If the largest part got a
-//!   new ID, the next round would have to process all states with a transition into that part.
+//! * A new block contains at most half of the states of the block from which it was split off (`halves`). Each part of
+//!   a block consists of all states of the block with the same signature, and the largest part keeps the block ID
+//!   (Hopcroft 1971). So if there are n states, each state gets a new block ID at most log2 n times, however many
+//!   rounds there are. If the largest part got a new ID, the next round would have to process all states with a
+//!   transition into that part.
 //! * The set of active states does not change. States that are not active can also get new block IDs, like the state 7
 //!   in the example. So the search for the active states of the next round begins with all states of new blocks
 //!   (`new_states`).

@@ -39,7 +39,7 @@ impl Partition {
         Ok(Partition::from_blocks(blocks, 1))
     }
 
-    /// Makes a partition that has `count` blocks. The argument `blocks` has the block ID of each state.
+    /// Makes a partition that has `count` blocks. The argument `blocks` contains the block ID of each state.
     pub fn from_blocks(blocks: Vec<u32>, count: u32) -> Partition
         requires { IsPartition blocks.items count }
         ensures { result ≡ blocks.items }

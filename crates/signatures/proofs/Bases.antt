@@ -1,6 +1,6 @@
--- A list is stored as a base, which is a list of pairs that several lists can share, and as extra pairs, which the base
--- lacks. A pair is in the union of several lists if and only if the pair is in the base of one of these lists, or is an
--- extra pair of one of these lists.
+-- A list is stored in two parts: its base, which is a list of pairs that several lists can share, and its extra pairs,
+-- which are all other pairs of the list. A pair is in at least one of several lists if and only if the pair is in the
+-- base of one of these lists, or is an extra pair of one of these lists.
 use Rattle.std.proofs.Common.{◌≡◌, ◌⊎◌, ◌↔◌, ℕ, Option, None, Some, ◌<◌, List, ◌++◌, length, slice_index, Contains, []}
 use Rattle.std.proofs.Common.{refl, inl, inr, arith, rules, All, IfSome, get_or-append-add}
 use Rattle.std.proofs.lemmas.Bool.{cases_eq, cases_lt}
@@ -13,10 +13,10 @@ own_or_not : (own : Option ℕ) (base : ℕ) → (own ≡ Some base) ⊎ ¬ (own
 own_or_not None base = search rules
 own_or_not (Some own) base = search (rules, cases_eq own base)
 
--- A list is stored as a base, which is a list of pairs that several lists can share, and as extra pairs, which the base
--- lacks. A pair is in at least one of several lists if and only if the pair is in the base of one of these lists, or is
--- an extra pair of one of these lists. The lemma separates two kinds of extra pairs: the extra pairs of lists whose
--- base has the ID `own`, and the extra pairs of all other lists.
+-- A list is stored in two parts: its base, which is a list of pairs that several lists can share, and its extra pairs,
+-- which are all other pairs of the list. A pair is in at least one of several lists if and only if the pair is in the
+-- base of one of these lists, or is an extra pair of one of these lists. The lemma distinguishes two kinds of extra
+-- pairs: the extra pairs of lists whose base has the ID `own`, and the extra pairs of all other lists.
 module _ (trie : List (List (ℕ × ℕ))) (extensions : List (ℕ × List (ℕ × ℕ))) (ids : List ℕ)
     (known : All (λ k. k < length extensions) ids)
     (own : Option ℕ) (z : ℕ × ℕ) where
@@ -35,15 +35,17 @@ module _ (trie : List (List (ℕ × ℕ))) (extensions : List (ℕ × List (ℕ 
         ],
       )
 
--- This lemma combines the contracts of the steps by which the union of several lists and of some pairs is computed. The
--- base of the result and the extra pairs after the last step together have exactly the pairs of the union.
+-- The union of several lists and of some pairs is computed in several steps. Suppose that each step satisfies its
+-- contract. Then the base of the result and the extra pairs after the last step together contain exactly the pairs of
+-- the union.
 pub joined_all : {B G H L M O P R S T : Type 0} → B ↔ R → G ↔ (P ⊎ S) → O ↔ G → (B ⊎ L) ↔ (B ⊎ O) → M ↔ (L ⊎ T)
     → H ↔ (R ⊎ (S ⊎ T)) → (B ⊎ M) ↔ (P ⊎ H)
 joined_all whole gathered ordered lacked merged all = search rules
 
--- A list is stored as a base, which is a list of pairs that several lists can share, and as extra pairs, which the base
--- lacks. Let `pairs` consist of the pairs in `left` and of the extra pairs of some lists that have the same base.
--- Suppose that no pair in `left` is in this base. Then no pair in `pairs` is in this base.
+-- A list is stored in two parts: its base, which is a list of pairs that several lists can share, and its extra pairs,
+-- which are all other pairs of the list. Suppose that `pairs` consists of the pairs in `left` and of the extra pairs of
+-- some lists that have the same base. Suppose also that no pair in `left` is in this base. Then no pair in `pairs` is
+-- in this base.
 pub joined_apart : (old trie : List (List (ℕ × ℕ))) (extensions : List (ℕ × List (ℕ × ℕ))) (ids : List ℕ) (base : ℕ)
     (own : Option ℕ)
     (left pairs : List (ℕ × ℕ)) → IfSome own (λ b. b ≡ base) → Grow old trie → All (IsExtension old) extensions
@@ -59,8 +61,8 @@ joined_apart old trie extensions ids base own left pairs is_base grow each known
           is.apart z (rw (← grow.same _ is.base, same) d) has.1
     ]
 
--- Suppose that `all` is the list xs followed by the list ys. Then P holds for an element of `all` if and only if P
--- holds for an element of xs or for an element of ys.
+-- Suppose that `all` is the list xs followed by the list ys. Then P holds for at least one element of `all` if and only
+-- if P holds for at least one element of xs or of ys.
 pub one_of_both : (P : ℕ → Type 0) (xs ys all : List ℕ) → xs ++ ys ≡ all → OneHas P all ↔ (OneHas P xs ⊎ OneHas P ys)
 one_of_both P xs ys all e =
     search (rules, cases_lt, get_or_append_left, get_or-append_right, get_or-append-add, length-append)

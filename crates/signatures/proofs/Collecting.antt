@@ -1,6 +1,6 @@
--- A list is stored as a base, which is a list of pairs that several lists can share, and as extra pairs, which the base
--- lacks. To compute the union of several lists, the bases of the lists are united, and the extra pairs of the lists are
--- collected. Collected pairs that are already in the base of the union are removed.
+-- A list is stored in two parts: its base, which is a list of pairs that several lists can share, and its extra pairs,
+-- which are all other pairs of the list. To compute the union of several lists, the bases of the lists are united, and
+-- the extra pairs of the lists are collected. Collected pairs that are already in the base of the union are removed.
 use Rattle.std.proofs.Common.{rules, ◌≡◌, ◌⊎◌, ◌↔◌, ℕ, ◌+◌, Bool, true, not, List, slice_index, filter, Contains, ap}
 use Rattle.std.proofs.Common.{arith}
 use Rattle.std.specs.Cmp.{eq_by_cmp_equiv}
@@ -13,17 +13,19 @@ use Rattle.signatures.specs.Extensions.{ShareNone, extension_at}
 use Rattle.signatures.proofs.Joining.{SomeBelow, up_to_more}
 use Rattle.signatures.proofs.Ascending.{has_pair, pair_total, pair_Decides}
 
--- A list is stored as a base, which is a list of pairs that several lists can share, and as extra pairs, which the base
--- lacks. `IsExtra` is about the list whose ID is at the index j of `ids`. It holds if z is an extra pair of this list,
--- and if P holds for the ID of the base of this list.
+-- `IsExtra` is about the list whose ID is at the index j of `ids`. The list is stored in two parts: its base, which is
+-- a list of pairs that several lists can share, and its extra pairs, which are all other pairs of the list. `IsExtra`
+-- holds if z is an extra pair of this list, and if P holds for the ID of the base of this list.
 abbrev pub IsExtra : List (ℕ × List (ℕ × ℕ)) → List ℕ → (ℕ → Type 0) → ℕ × ℕ → ℕ → Type 0
 IsExtra extensions ids P z j =
     P (extension_at extensions (slice_index ids j)).0 × Contains (extension_at extensions (slice_index ids j)).1 z
 
--- A list is stored as a base, which is a list of pairs that several lists can share, and as extra pairs, which the base
--- lacks. Suppose that a loop has gone through the first i lists, and has collected the extra pairs of exactly those
--- lists whose base has an ID for which P holds. If the loop treats the next list x in the same way, this is also true
--- of the first i + 1 lists.
+-- A list is stored in two parts: its base, which is a list of pairs that several lists can share, and its extra pairs,
+-- which are all other pairs of the list. Suppose that a loop has gone through the first i IDs in `ids`, and has
+-- collected the extra pairs of exactly those lists whose base has an ID for which P holds. Let x be the list with the
+-- next ID. If P holds for the ID of the base of x, the loop collects the extra pairs of x, and otherwise it collects
+-- nothing. Then the loop has gone through the first i + 1 IDs, and has still collected the extra pairs of exactly those
+-- lists whose base has an ID for which P holds.
 module _ (extensions : List (ℕ × List (ℕ × ℕ))) (ids : List ℕ) (P : ℕ → Type 0) (z : ℕ × ℕ) (x : ℕ × List (ℕ × ℕ))
     (i : ℕ) (is : x ≡ extension_at extensions (slice_index ids i)) {B D : Type 0}
     (before : B ↔ (D ⊎ SomeBelow (IsExtra extensions ids P z) i)) where
@@ -47,7 +49,7 @@ passing_has p xs z =
     grind (arith, has_pair (filter p xs) z, has_pair xs z, same, cases_Bool (p z))
 
 -- Suppose that the list `new` results from the list `old` by removing all pairs that are in `list`. Then `new` has no
--- pair in common with `list`. The lists `list` and `new` together have the same pairs as the lists `list` and `old`
+-- pair in common with `list`. The lists `list` and `new` together contain the same pairs as the lists `list` and `old`
 -- together.
 module _ (list old new : List (ℕ × ℕ)) (is : new ≡ filter (is_lacking list) old) where
   pub lack_apart : ShareNone list new

@@ -1,9 +1,10 @@
 -- The split point of a list is the number at which the list is divided into two halves (`IsCut`). To compare a pair
--- with this number, the pair is represented by a number (`pair_value`). The first half has the pairs that are less than
--- the split point, and the second half has all other pairs. A list has at most one split point. Suppose that the split
--- point of a list is greater than `low` and at most `high`. Among all numbers that are greater than `low` and at most
--- `high`, let c be the number that is divisible by the highest power of two (`IsCutPoint`). Then c is the split point
--- of the list, or all pairs of the list are less than c, or all pairs of the list are at least c.
+-- (x, y) with the split point, the pair is represented by the number x * 2^32 + y (`pair_value`). The first half
+-- contains the pairs that are less than the split point, and the second half contains all other pairs. A list has at
+-- most one split point. Suppose that the split point of a list is greater than `low` and at most `high`. Among all
+-- numbers that are greater than `low` and at most `high`, let c be the number that is divisible by the highest power of
+-- two (`IsCutPoint`). Then c is the split point of the list, or all pairs of the list are less than c, or all pairs of
+-- the list are at least c.
 use Rattle.std.proofs.Common.{rules, ◌≡◌, ◌∙◌, ℕ, ◌+◌, ◌-◌, ◌*◌, ◌/◌, ◌%◌, ◌^◌, ◌<◌, ◌≤◌, List, Contains, ap, sym, inl}
 use Rattle.std.proofs.Common.{inr, arith}
 use Rattle.std.proofs.Math.Pow.{shr_mono}
@@ -18,13 +19,14 @@ lift a b m n h e =
     let s : n ≡ m + (n - m) = omega arith in
     rw (s, ← shr-shr a m (n - m), ← shr-shr b m (n - m), e)
 
--- Suppose that c is a multiple of 2^bit, that z is less than c, and that y is at least c. Then z / 2^bit is less than c
--- / 2^bit, and y / 2^bit is at least c / 2^bit.
+-- Suppose that the number c is a multiple of 2^bit, that the number z is less than c, and that the number y is at least
+-- c. Then the quotient z / 2^bit, which is rounded down, is less than c / 2^bit. The quotient y / 2^bit, which is also
+-- rounded down, is at least c / 2^bit.
 between : (bit z c y : ℕ) → c % 2 ^ bit ≡ 0 → z < c → c ≤ y → (z / 2 ^ bit < c / 2 ^ bit) × (c / 2 ^ bit ≤ y / 2 ^ bit)
 between bit z c y multiple below above = search rules
 
--- Suppose that c is a multiple of 2^bit, that z is less than c, and that y is at least c. Suppose also that z and y
--- have the same bits at all bit positions above `bit`. Then c is an odd multiple of 2^bit.
+-- Suppose that the number c is a multiple of 2^bit, that the number z is less than c, and that the number y is at least
+-- c. Suppose also that z and y have the same bits at all bit positions above `bit`. Then c is an odd multiple of 2^bit.
 odd : (bit z c y q : ℕ) → c % 2 ^ bit ≡ 0 → z < c → c ≤ y → z / 2 ^ (bit + 1) ≡ q → y / 2 ^ (bit + 1) ≡ q →
     c ≡ (2 * q + 1) * 2 ^ bit
 odd bit z c y q multiple below above first second =
@@ -35,9 +37,10 @@ odd bit z c y q multiple below above first second =
     sym (omega (arith, div-add-mod' c (2 ^ bit), multiple)) ∙ ap (λ m. m * 2 ^ bit) m
 
 module _ (list : List (ℕ × ℕ)) where
-  -- Each pair is represented by a number (`pair_value`). Suppose that the numbers for all pairs of the list have the
-  -- same bits at all bit positions above `bit`. Suppose also that d is a multiple of a power of two that is higher than
-  -- 2^bit. Then the list cannot have both a pair that is less than d and a pair that is at least d.
+  -- Each pair (x, y) is represented by the number x * 2^32 + y (`pair_value`). Suppose that the numbers for all pairs
+  -- of the list have the same bits at all bit positions above `bit`. Suppose also that d is a multiple of a power of
+  -- two that is greater than 2^bit. Then the list cannot contain both a pair that is less than d and a pair that is at
+  -- least d.
   none_later : (bit later c d : ℕ) → IsAlike bit list c → bit < later → d % 2 ^ later ≡ 0
       → (z y : ℕ × ℕ) → Contains list z → Contains list y → pair_value z < d → d ≤ pair_value y → ⊥
   none_later bit later c d is more multiple z y in_z in_y below above =
@@ -80,11 +83,11 @@ module _ (list : List (ℕ × ℕ)) where
     ];
   }
 
-  -- Each pair is represented by a number (`pair_value`). Suppose that the number c is a multiple of 2^bit, and that the
-  -- numbers for all pairs of the list have the same bits as c at all bit positions above `bit` (`IsAlike`). Suppose
-  -- also that c is not the split point of the list, which is the number at which the list is divided into two halves.
-  -- Then the numbers for all pairs of the list are less than c, or the numbers for all pairs of the list are at least
-  -- c.
+  -- Each pair (x, y) is represented by the number x * 2^32 + y (`pair_value`). Suppose that the number c is a multiple
+  -- of 2^bit, and that the numbers for all pairs of the list have the same bits as c at all bit positions above `bit`
+  -- (`IsAlike`). Suppose also that c is not the split point of the list, which is the number at which the list is
+  -- divided into two halves. Then the numbers for all pairs of the list are less than c, or the numbers for all pairs
+  -- of the list are at least c.
   pub all_under : (bit c d : ℕ) → IsAlike bit list c → IsCut list d → d < c → IsUnder list c
   all_under bit c d is own less z in_z =
       let same : c ≤ pair_value z → c ≡ d = λ h. cut_unique c d (search (rules, own.below)) own in
@@ -97,8 +100,8 @@ module _ (list : List (ℕ × ℕ)) where
 
   -- Among all numbers that are greater than `low` and at most `high`, let c be the number that is divisible by the
   -- highest power of two, 2^bit (`IsCutPoint`). Suppose that, for each pair of a list, the number that represents the
-  -- pair (`pair_value`) is at least `low` and at most `high`. Then each of these numbers has the same bits as c at all
-  -- bit positions above `bit` (`IsAlike`).
+  -- pair (`pair_value`) is at least `low` and at most `high`. Then, for each pair of the list, this number has the same
+  -- bits as c at all bit positions above `bit` (`IsAlike`).
   pub alike_within : (bit low high c : ℕ) → IsCutPoint bit low high c →
       ((z : ℕ × ℕ) → Contains list z → (low ≤ pair_value z) × (pair_value z ≤ high)) → IsAlike bit list c
   alike_within bit low high c place range =

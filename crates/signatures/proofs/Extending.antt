@@ -1,6 +1,6 @@
--- A list is stored as a base, which is a list of pairs that several lists can share, and as extra pairs, which the base
--- lacks. The fingerprint of the list (a hash of 64 bits) is the sum of the fingerprints of its base and of its extra
--- pairs, modulo 2^64.
+-- A list is stored in two parts: its base, which is a list of pairs that several lists can share, and its extra pairs,
+-- which are all other pairs of the list. The fingerprint (a hash of 64 bits) of the list is the sum of the fingerprints
+-- of these two parts, modulo 2^64.
 use Rattle.std.proofs.Common.{◌≡◌, ◌∙◌, ℕ, ◌+◌, ◌%◌, ◌^◌, List, [], ◌∷◌, ◌++◌, Contains, Less, Equal, Greater, ap, sym}
 use Rattle.std.proofs.Common.{subst, refl, inl, inr, arith, sum_by, is_eq, Ordering}
 use Rattle.std.specs.List.Sorted.{IsStrictlySortedBy}
@@ -49,7 +49,7 @@ pub fingerprint_merged : (xs ys : List (ℕ × ℕ)) → ShareNone xs ys
 fingerprint_merged xs ys apart =
     sym (add-mod (sum_by hash_of xs) (sum_by hash_of ys) (2 ^ 64)) ∙ ap (λ n. n % 2 ^ 64) (sym (sum_merged xs ys apart))
 
--- Suppose that a list has exactly the pairs of two other lists, and that all three lists are in strictly ascending
+-- Suppose that a list contains exactly the pairs of two other lists, and that all three lists are in strictly ascending
 -- order. Then this list is the merge of the two other lists.
 pub unites_is_merged : (list few base : List (ℕ × ℕ)) → IsStrictlySortedBy pair_cmp list
     → IsStrictlySortedBy pair_cmp few → IsStrictlySortedBy pair_cmp base → Unites list few base → list ≡ merged base few
@@ -61,9 +61,10 @@ pub merged_fit : (xs ys : List (ℕ × ℕ)) → Fit xs → Fit ys → Fit (merg
 merged_fit xs ys fit fit' z d = elim ((merged_has z xs ys).0 d) [ inl a ↦ fit z a | inr b ↦ fit' z b ]
 
 -- Suppose that two lists are in strictly ascending order, and that the second component of each of their pairs is less
--- than 2^32 (`Fit`). Suppose also that the number c divides each of the two lists into two parts. The lower part has
--- the pairs that are less than c, and the upper part has the other pairs. Then the merge of the two lists is the merge
--- of the two lower parts, followed by the merge of the two upper parts.
+-- than 2^32 (`Fit`). Suppose also that the number c divides each of the two lists into two parts. To compare a pair
+-- (x, y) with c, the pair is represented by the number x * 2^32 + y (`pair_value`). The lower part contains the pairs
+-- that are less than c, and the upper part contains the other pairs. Then the merge of the two lists is the merge of
+-- the two lower parts, followed by the merge of the two upper parts.
 pub merged_halves : {list few below above below' above' : List (ℕ × ℕ)} {c : ℕ} → IsParted list c below above
     → IsParted few c below' above'
     → IsStrictlySortedBy pair_cmp list → IsStrictlySortedBy pair_cmp few → Fit list → Fit few

@@ -1,8 +1,8 @@
--- The split point of a list is the number at which the list is divided into two halves. To compare a pair with this
--- number, the pair is represented by a number (`pair_value`). The first half has the pairs that are less than the split
--- point, and the second half has all other pairs. The split point depends only on the first and the last pair of the
--- list. These lemmas also show under which conditions two interned lists are the halves of a list, and that no two
--- other interned lists are the halves of this list.
+-- The split point of a list is the number at which the list is divided into two halves. To compare a pair (x, y) with
+-- the split point, the pair is represented by the number x * 2^32 + y (`pair_value`). The first half contains the pairs
+-- that are less than the split point, and the second half contains all other pairs. The split point depends only on the
+-- first and the last pair of the list. These lemmas also show under which conditions two interned lists are the halves
+-- of a list, and that no two other interned lists are the halves of this list.
 use Rattle.std.proofs.Common.{rules, ◌≡◌, ℕ, ◌-◌, ◌<◌, ◌≤◌, List, [], ◌++◌, length, get_or, Contains, min, max, ⊎_elim}
 use Rattle.std.proofs.Common.{arith}
 use Rattle.std.specs.List.Sorted.{IsStrictlySortedBy}
@@ -20,21 +20,22 @@ use Rattle.signatures.proofs.Keys.{ascending_keys, key_from_less, below_has, abo
 use Rattle.signatures.proofs.Ascending.{ascending_unique}
 use Rattle.std.proofs.lemmas.Map.Keys.{Less-from_sorted}
 
--- `HasEnds` holds under two conditions, in which each pair is represented by a number (`pair_value`). First, the list
--- has a pair that is at most `low` and a pair that is at least `high`. Second, take any range from l to h that includes
--- `low` and `high`. Among all numbers that are greater than l and at most h, let c be the number that is divisible by
--- the highest power of two, 2^bit (`IsCutPoint`). Then each pair of the list has the same bits as c at all bit
--- positions above `bit` (`IsAlike`).
+-- `HasEnds` is about a list of pairs and the numbers `low` and `high`. Each pair (x, y) is represented by the number
+-- x * 2^32 + y (`pair_value`). `HasEnds` holds if both of the following conditions hold. The first condition is that
+-- the list contains a pair that is at most `low` and a pair that is at least `high`. The second condition is about any
+-- two numbers l and h such that l is at most `low` and h is at least `high`. Among all numbers that are greater than l
+-- and at most h, let c be the number that is divisible by the highest power of two, 2^bit (`IsCutPoint`). Then each
+-- pair of the list must have the same bits as c at all bit positions above `bit` (`IsAlike`).
 pub record HasEnds (list : List (ℕ × ℕ)) (low high : ℕ) : Type 0 where
   pub before : (z : ℕ × ℕ) × Contains list z × (pair_value z ≤ low)
   pub after : (z : ℕ × ℕ) × Contains list z × (high ≤ pair_value z)
   pub alike : (bit l h c : ℕ) → IsCutPoint bit l h c → l ≤ low → high ≤ h → IsAlike bit list c
 
--- Each pair is represented by a number (`pair_value`). Suppose that a list is not empty and is in strictly ascending
--- order, and that the second component of each of its pairs is less than 2^32 (`Fit`). Let `low` be the number for the
--- first pair of the list, and let `high` be the number for its last pair. Then the number for each pair of the list is
--- at least `low` and at most `high`, and the list satisfies `HasEnds` with `low` and `high`. If the list has more than
--- one pair, `low` is less than `high`.
+-- Each pair (x, y) is represented by the number x * 2^32 + y (`pair_value`). Suppose that a list is not empty and is in
+-- strictly ascending order, and that the second component of each of its pairs is less than 2^32 (`Fit`). Let `low` be
+-- the number for the first pair of the list, and let `high` be the number for its last pair. Then the number for each
+-- pair of the list is at least `low` and at most `high`, and `HasEnds` holds for the list and the numbers `low` and
+-- `high`. If the list has more than one pair, `low` is less than `high`.
 module _ (list : List (ℕ × ℕ)) (ascending : IsStrictlySortedBy pair_cmp list) (fit : Fit list) (some : 0 < length list)
     {low high : ℕ} (low_is : low ≡ pair_value (get_or list 0 (0, 0)))
     (high_is : high ≡ pair_value (get_or list (length list - 1) (0, 0))) where
@@ -65,10 +66,11 @@ module _ (list : List (ℕ × ℕ)) (ascending : IsStrictlySortedBy pair_cmp lis
         let between = keys_between z d in (omega arith, omega arith));
   }
 
--- Each pair is represented by a number (`pair_value`). The condition `HasEnds` relates a list of pairs to two numbers.
--- Suppose that `HasEnds` holds for a list and the numbers `low` and `high`. Among all numbers that are greater than
--- `low` and at most `high`, let c be the number that is divisible by the highest power of two (`IsCutPoint`). Then c is
--- the split point of the list, which is the number at which the list is divided into two halves (`IsCut`).
+-- Each pair (x, y) is represented by the number x * 2^32 + y (`pair_value`). The condition `HasEnds` relates a list of
+-- pairs to two numbers. Suppose that `HasEnds` holds for a list and the numbers `low` and `high`. Among all numbers
+-- that are greater than `low` and at most `high`, let c be the number that is divisible by the highest power of two
+-- (`IsCutPoint`). Then c is the split point of the list, which is the number at which the list is divided into two
+-- halves (`IsCut`).
 pub IsCut-ends : {list : List (ℕ × ℕ)} {low high bit c : ℕ} → HasEnds list low high → IsCutPoint bit low high c →
     IsCut list c
 IsCut-ends {list} {low} {high} {bit} {c} ends place =
@@ -90,17 +92,17 @@ HasEnds-union {list} {xs} {ys} {low} {high} {low'} {high'} first second unites =
       record { multiple = place.multiple; alike = λ z d. ⊎_elim (one.alike z) (two.alike z) ((unites z).0 d) };
 }
 
--- Suppose that a list has more than 64 pairs (`MOST_WHOLE`). Suppose also that the split point of the list, which is
--- the number at which the list is divided into two halves, divides the list into two interned lists. Then these two
--- interned lists are the halves of the list (`AreHalvesIn`).
+-- Suppose that a list has more than 64 pairs (`MOST_WHOLE`), and that `h.cut` is the number at which the list has to be
+-- divided into two halves (`IsCut`). Suppose also that this number divides the list into the two interned lists with
+-- the IDs `h.below` and `h.above`. Then these two interned lists are the halves of the list (`AreHalvesIn`).
 pub AreHalvesIn-parts : {lists : List (List (ℕ × ℕ))} {h : Halves} {list : List (ℕ × ℕ)} → h.below < length lists
     → h.above < length lists → IsParted list h.cut (list_at lists h.below) (list_at lists h.above) → IsCut list h.cut
     → MOST_WHOLE < length list → AreHalvesIn lists h
 AreHalvesIn-parts {lists} {h} low high parted cut long = search (rules, length-append)
 
--- Suppose that g has the IDs of the two halves of a list, and the number at which the list is divided into these
--- halves. Suppose that h has the IDs and the number for an equal list, and that no two stored lists are equal. Then g
--- and h are equal.
+-- Suppose that g contains the IDs of the two halves of a list, and the number at which the list is divided into these
+-- halves. Suppose that h contains the IDs of the halves of an equal list, and the number at which this list is divided.
+-- Suppose also that no two stored lists are equal. Then g and h are equal.
 module _ (lists : List (List (ℕ × ℕ))) (stored : AreStored lists) (different : AreDifferent lists) where
   pub halves_same : (g h : Halves) → AreHalvesIn lists g → AreHalvesIn lists h
       → list_at lists g.below ++ list_at lists g.above ≡ list_at lists h.below ++ list_at lists h.above → g ≡ h

@@ -7,15 +7,16 @@ use Rattle.buckets.specs.Buckets.{tag_at, IsLast}
 use Rattle.signatures.specs.Lists.{list_at}
 use Rattle.signatures.specs.Hashed.{tag_of}
 
--- The element of `tags` at the index k is the tag (a hash of 32 bits) of the list with the ID k.
+-- Suppose that `tags` contains the tag (a hash of 32 bits) of each list. Then the element of `tags` at the index k is
+-- the tag of the list with the ID k.
 pub tag_is : (lists : List (List (ℕ × ℕ))) {tags : List ℕ} → tags ≡ map tag_of lists → (k : ℕ) →
     tag_at tags k ≡ tag_of (list_at lists k)
 tag_is lists e k = ap (λ tags. tag_at tags k) e ∙ plain.get_or-map tag_of lists k []
 
--- A search for `list` goes through the stored lists that have the same tag (a hash of 32 bits) as `list`, in descending
--- order of their IDs. `IsReached` holds for the ID r under three conditions. First, if any lists are stored, r is the
--- ID of a stored list. Second, no stored list with an ID greater than r is equal to `list`. Third, r is 0, or the list
--- with the ID r has the same tag as `list`.
+-- `IsReached` is about a search for `list`. The search goes through the stored lists that have the same tag (a hash of
+-- 32 bits) as `list`, in descending order of their IDs. `IsReached` holds for the ID r if all three of the following
+-- conditions hold. First, if any lists are stored, r is the ID of a stored list. Second, no stored list with an ID
+-- greater than r is equal to `list`. Third, r is 0, or the list with the ID r has the same tag as `list`.
 pub record IsReached (lists : List (List (ℕ × ℕ))) (list : List (ℕ × ℕ)) (r : ℕ) : Type 0 where
   pub below : 0 < length lists → r < length lists
   pub above : (q : ℕ) → r < q → q < length lists → list_at lists q ≡ list → ⊥

@@ -1,5 +1,5 @@
--- These lemmas are about the union of several lists, which is computed list by list. They also show that unions of
--- stored lists stay correct when more lists are stored.
+-- Some of these lemmas are about the union of several lists, which is computed list by list. Other lemmas show that a
+-- list which is the union of two stored lists is still their union when more lists are stored.
 use Rattle.std.proofs.Common.{◌⊎◌, ◌↔◌, ℕ, ◌+◌, ◌<◌, List, length, refl, arith, rules}
 use Rattle.signatures.specs.Lists.{list_at, Grow}
 use Rattle.signatures.specs.Unions.{Unites, IsUnion, AreUnions}
@@ -7,14 +7,14 @@ use Rattle.signatures.specs.Unions.{Unites, IsUnion, AreUnions}
 pub or_swap : {A B C : Type 0} → A ↔ (B ⊎ C) → A ↔ (C ⊎ B)
 or_swap f = search rules
 
--- P holds for some number below i + 1 if and only if P holds for i or for some number below i.
+-- P holds for some number less than i + 1 if and only if P holds for i or for some number less than i.
 pub up_to_more : (P : ℕ → Type 0) (i : ℕ) → (((j : ℕ) × (j < i) × P j) ⊎ P i) ↔ ((j : ℕ) × (j < i + 1) × P j)
 up_to_more P i = search rules
 
 pub either_same : {N M H E K : Type 0} → N ↔ (M ⊎ E) → M ↔ H → (H ⊎ E) ↔ K → N ↔ K
 either_same new old more = search rules
 
--- `SomeBelow` holds if P holds for some number below i.
+-- `SomeBelow` holds if P holds for some number less than i.
 abbrev pub SomeBelow : (ℕ → Type 0) → ℕ → Type 0
 SomeBelow P i = (j : ℕ) × (j < i) × P j
 
@@ -41,8 +41,8 @@ IsUnion-grown {j} {k} grow first second within exactly = record {
   exactly = rw (grow.same j first, grow.same k second) exactly;
 }
 
--- Suppose that each entry of a list of unions has the IDs of two stored lists, and the ID of the stored list that is
--- their union. After more lists have been stored, each entry is still correct.
+-- Suppose that each entry of a list of unions contains the IDs of two stored lists, and the ID of the stored list that
+-- is their union (`AreUnions`). If more lists are stored, each entry is still correct.
 pub AreUnions-grow : {old new : List (List (ℕ × ℕ))} → Grow old new → (unions : List ((ℕ × ℕ) × ℕ))
     → AreUnions old unions → AreUnions new unions
 AreUnions-grow grow unions are z c =

@@ -1,6 +1,6 @@
--- A list is stored as a base, which is a list of pairs that several lists can share, and as extra pairs, which the base
--- lacks. The extra pairs of all lists are stored in one buffer. If pairs are appended to this buffer, or if a list is
--- appended to the stored lists, all lists that were stored before stay the same.
+-- A list is stored in two parts: its base, which is a list of pairs that several lists can share, and its extra pairs,
+-- which are all other pairs of the list. The extra pairs of all lists are stored in one buffer. If pairs are appended
+-- to this buffer, or if a list is appended to the stored lists, all lists that were stored before stay the same.
 use Rattle.std.proofs.Common.{rules, ◌≡◌, ℕ, ◌+◌, ◌≤◌, List, [], ◌∷◌, ◌++◌, length, refl, arith, All, ◌-◌, drop, map}
 use Rattle.std.proofs.Common.{slice_range, length-drop, length-take, drop_at, take_all}
 use Rattle.std.proofs.lemmas.List.{map-append, drop-append-le, take-append-le}
@@ -8,8 +8,8 @@ use Rattle.std.proofs.lemmas.List.Elements.{All-tail}
 use Rattle.signatures.specs.declared.extensions.Slot.{Slot}
 use Rattle.signatures.specs.Extensions.{extension_in, all_extensions, AreSlots}
 
--- If pairs are appended to a buffer, each range of indices that lies within the old buffer still has the same pairs.
--- The range after the old buffer has the appended pairs.
+-- If pairs are appended to a buffer, each range of indices that lies within the old buffer still contains the same
+-- pairs. The range after the old buffer contains the appended pairs.
 pub slice_range-append : (pairs more : List (ℕ × ℕ)) (start end : ℕ) → start ≤ end → end ≤ length pairs →
     slice_range (pairs ++ more) start end ≡ slice_range pairs start end
 slice_range-append pairs more start end h k = search (rules, drop-append-le, take-append-le, length-drop)
@@ -27,9 +27,9 @@ map_same f g (x ∷ xs) h = rw (h 0 x (omega arith), map_same f g xs (All-tail (
 pub length-part : (pairs : List (ℕ × ℕ)) (start count : ℕ) → length (slice_range pairs start (start + count)) ≤ count
 length-part pairs start count = omega (arith, length-take (start + count - start) (drop start pairs))
 
--- A slot stores a list in two parts: the ID of a base, which is a list of pairs that several lists can share, and a
--- range of a buffer, which has the pairs that the base lacks. If pairs are appended to the buffer, the list in each
--- slot stays the same.
+-- A slot stores a list in two parts: the ID of its base, which is a list of pairs that several lists can share, and the
+-- range of a buffer in which all other pairs of the list are stored. If pairs are appended to the buffer, the list in
+-- each slot stays the same.
 module _ (pairs more : List (ℕ × ℕ)) where
   pub extensions-more : (slots : List Slot) → All (λ x. x.start + x.count ≤ length pairs) slots →
       all_extensions (pairs ++ more) slots ≡ all_extensions pairs slots
@@ -37,10 +37,10 @@ module _ (pairs more : List (ℕ × ℕ)) where
       map_same (extension_in (pairs ++ more)) (extension_in pairs) slots (λ k d low.
       search (rules, slice_range-append, h))
 
--- A slot stores a list in two parts: the ID of a base, which is a list of pairs that several lists can share, and a
--- range of a buffer, which has the pairs that the base lacks. Suppose that pairs are appended to the buffer, and that a
--- slot for these pairs is appended to the slots. Then the list of the new slot is the last stored list, and all other
--- stored lists stay the same.
+-- A slot stores a list in two parts: the ID of its base, which is a list of pairs that several lists can share, and the
+-- range of a buffer in which all other pairs of the list are stored. Suppose that pairs are appended to the buffer, and
+-- that a slot for these pairs is appended to the slots. Then the list of the new slot is the last stored list, and all
+-- other stored lists stay the same.
 module _ (pairs list : List (ℕ × ℕ)) (slots : List Slot) (new : Slot) (are : AreSlots pairs slots)
     (start : new.start ≡ length pairs) (count : new.count ≡ length list) where
   pub extensions-push : all_extensions (pairs ++ list) (slots ++ new ∷ [])

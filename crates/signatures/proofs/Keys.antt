@@ -1,8 +1,9 @@
--- Each pair is represented by a number (`pair_value`). If the second component of each pair is less than 2^32 (`Fit`),
--- the order of the pairs is the order of these numbers. Suppose that a list in ascending order is divided into the
--- pairs that are less than a number and the other pairs. Then both parts are in ascending order. Conversely, suppose
--- that two lists are in ascending order. Suppose also that all pairs of the first list are less than c, and that all
--- pairs of the second list are at least c. Then the first list followed by the second list is in ascending order.
+-- Each pair (x, y) is represented by the number x * 2^32 + y (`pair_value`). If the second component of each pair is
+-- less than 2^32 (`Fit`), the order of the pairs is the order of these numbers. Suppose that a list in ascending order
+-- is divided into two parts: the pairs whose numbers are less than some number, and the other pairs. Then both parts
+-- are in ascending order. Conversely, suppose that two lists are in ascending order. Suppose also that all pairs of the
+-- first list are less than some number, and that all pairs of the second list are at least this number. Then the first
+-- list followed by the second list is in ascending order.
 use Rattle.std.proofs.Common.{rules, ◌≡◌, ◌↔◌, ◌⊎◌, ℕ, ◌+◌, ◌^◌, ◌<◌, ◌≤◌, List, [], ◌∷◌, ◌++◌, length, get_or, take}
 use Rattle.std.proofs.Common.{drop, true, false, ltb, Contains, Less, inl, inr, arith}
 use Rattle.std.specs.List.Sorted.{IsStrictlySortedBy, IsNonDecreasingBy, IsPartitionPoint}
@@ -28,10 +29,10 @@ halves_has below above z =
     let first = Contains-append_left below above z in
     grind (arith, first, Contains-append_cases below above z, Contains-append_right below above z)
 
--- Each pair is represented by a number (`pair_value`). Suppose that two lists are in strictly ascending order, and that
--- the second component of each of their pairs is less than 2^32 (`Fit`). Suppose also that all pairs of the first list
--- are less than c, and that all pairs of the second list are at least c. Then the first list followed by the second
--- list is in strictly ascending order.
+-- Each pair (x, y) is represented by the number x * 2^32 + y (`pair_value`). Suppose that two lists are in strictly
+-- ascending order, and that the second component of each of their pairs is less than 2^32 (`Fit`). Suppose also that
+-- all pairs of the first list are less than the number c, and that all pairs of the second list are at least c. Then
+-- the first list followed by the second list is in strictly ascending order.
 pub halves_ascending : (below above : List (ℕ × ℕ)) (c : ℕ) → IsStrictlySortedBy pair_cmp below
     → IsStrictlySortedBy pair_cmp above → Fit below → Fit above
     → IsUnder below c → IsOver above c → IsStrictlySortedBy pair_cmp (below ++ above)
@@ -53,9 +54,9 @@ ascending_keys list ascending fit i j d low high =
     (fit _ (Contains-get_or list j d high)) in
     grind (arith, cases_eq i j, Less-from_sorted pair_cmp list i j d ascending, key, low, high)
 
--- Each pair is represented by a number (`pair_value`). Suppose that the first i pairs of a list are less than c, and
--- that all other pairs of the list are at least c. Then the number c divides the list into its first i pairs and its
--- remaining pairs (`IsParted`).
+-- Each pair (x, y) is represented by the number x * 2^32 + y (`pair_value`). Suppose that the first i pairs of a list
+-- are less than the number c, and that all other pairs of the list are at least c. Then the number c divides the list
+-- into its first i pairs and its remaining pairs (`IsParted`).
 pub parted_is : (list : List (ℕ × ℕ)) (c i : ℕ) → i ≤ length list
     → IsPartitionPoint (λ z. ltb (pair_value z) c ≡ true) (λ z. ltb (pair_value z) c ≡ false) list i
     → IsParted list c (take i list) (drop i list)
@@ -72,9 +73,10 @@ ascending_both xs ys ascending = (
       (Less-from_sorted pair_cmp (xs ++ ys) _ _ (0, 0) ascending (omega arith) (omega (arith, length-append xs ys)))),
 )
 
--- Suppose that a number divides a list of pairs into two parts: the pairs that are less than this number, and the other
--- pairs. If the list is in strictly ascending order, both parts are in strictly ascending order. If the second
--- component of each pair of the list is less than 2^32 (`Fit`), this is also true of each pair of both parts.
+-- Suppose that a number divides a list of pairs into two parts: the pairs whose numbers (`pair_value`) are less than
+-- this number, and the other pairs. If the list is in strictly ascending order, both parts are in strictly ascending
+-- order. If the second component of each pair of the list is less than 2^32 (`Fit`), this is also true of each pair of
+-- both parts.
 module _ {list below above : List (ℕ × ℕ)} {c : ℕ} (parted : IsParted list c below above) where
   pub parts_has : (z : ℕ × ℕ) → Contains list z ↔ (Contains below z ⊎ Contains above z)
   parts_has z = rw parted.joined (halves_has below above z)

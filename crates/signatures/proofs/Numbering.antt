@@ -1,7 +1,7 @@
--- A list is stored as a base, which is a list of pairs that several lists can share, and as extra pairs, which the base
--- lacks. The bases are stored in the trie. Some lemmas show when two lists that are stored in this way are equal. Other
--- lemmas show that the stored lists stay the same if lists are added to the trie, or if a list is appended to the table
--- of lists.
+-- A list is stored in two parts: its base, which is a list of pairs that several lists can share, and its extra pairs,
+-- which are all other pairs of the list. The bases are stored in a separate store, which is called the trie. Some
+-- lemmas show when two lists that are stored in this way are equal. Other lemmas show that the stored lists stay the
+-- same if lists are added to the trie, or if a list is appended to the table of lists.
 use Rattle.std.proofs.Common.{rules, ◌≡◌, ◌∙◌, ◌⊎◌, ◌↔◌, ℕ, ◌<◌, ◌≤◌, List, [], ◌∷◌, ◌++◌, length, slice_index}
 use Rattle.std.proofs.Common.{Contains, ap, inl, inr, arith, All}
 use Rattle.std.specs.List.Sorted.{IsStrictlySortedBy}
@@ -24,10 +24,10 @@ use Rattle.signatures.proofs.Merging.{merged_nil, merged_has, merged_ascending}
 use Rattle.signatures.proofs.Extending.{unites_is_merged}
 use Rattle.signatures.proofs.Ascending.{ascending_unique}
 
--- A list is stored as a base, which is a list of pairs that several lists can share, and as extra pairs, which the base
--- lacks. The bases are stored in the trie. Suppose that lists are added to the trie. Then each list that is stored in
--- this way has the same pairs as before. Its base is still in the trie, and its base still lacks its extra pairs
--- (`IsExtension`).
+-- A list is stored in two parts: its base, which is a list of pairs that several lists can share, and its extra pairs,
+-- which are all other pairs of the list. The bases are stored in a separate store, which is called the trie. Suppose
+-- that lists are added to the trie. Then each list that is stored in this way contains the same pairs as before. The
+-- base of each such list is still in the trie, and the extra pairs are still not in the base (`IsExtension`).
 module _ {old new : List (List (ℕ × ℕ))} (grow : Grow old new) where
   pub extended-grow : (x : ℕ × List (ℕ × ℕ)) → IsExtension old x → extended new x ≡ extended old x
   extended-grow x is = ap (λ l. merged l x.1) (grow.same x.0 is.base)
@@ -54,15 +54,15 @@ module _ {old new : List (List (ℕ × ℕ))} (grow : Grow old new) where
   -- `AreExtended` states that the table and the trie fit together. Suppose that lists are added to the trie. Suppose
   -- also that every list of the old table is in the new table, with the same ID, and that the new table satisfies
   -- `AreExtended` with the old trie. Then the new table satisfies `AreExtended` with the new trie, and each list of the
-  -- old table has the same pairs as before (`TableGrows`).
+  -- old table contains the same pairs as before (`TableGrows`).
   pub TableGrows-from : (before after : Table) {extensions : List (ℕ × List (ℕ × ℕ))} {tags : List ℕ}
       → after.extensions ≡ extensions → after.buckets.tags ≡ tags → AreExtended old extensions tags
       → Grow (extended_lists old before.extensions) (extended_lists old extensions) → TableGrows old new before after
   TableGrows-from before after same same' are lists = search (rules, same, same', AreExtended-grow, grow, lists-grow)
 
--- A list is stored as a base, which is a list of pairs that several lists can share, and as extra pairs, which the base
--- lacks. Suppose that two lists have the same base. Then the two lists are equal if and only if their extra pairs are
--- equal.
+-- A list is stored in two parts: its base, which is a list of pairs that several lists can share, and its extra pairs,
+-- which are all other pairs of the list. Suppose that two lists have the same base. Then the two lists are equal if and
+-- only if their extra pairs are equal.
 pub same_base : (trie : List (List (ℕ × ℕ))) (x y : ℕ × List (ℕ × ℕ)) → IsExtension trie x
     → IsExtension trie y → x.0 ≡ y.0 → (x.1 ≡ y.1) ↔ (extended trie x ≡ extended trie y)
 same_base trie x y is is' e = (
@@ -73,9 +73,10 @@ same_base trie x y is is' e = (
       grind (arith, one, two, f, e, is.apart z, is'.apart z)),
 )
 
--- A list is stored as a base, which is a list of pairs that several lists can share, and as extra pairs, which the base
--- lacks. Let x be a list in this form. Suppose that a list of the trie has exactly the pairs of the base of x and the
--- extra pairs of x. Then this list of the trie is equal to the list x.
+-- A list is stored in two parts: its base, which is a list of pairs that several lists can share, and its extra pairs,
+-- which are all other pairs of the list. Let x be a list that is stored in this way. Suppose that a list of the trie,
+-- which stores the bases, contains exactly the pairs of the base of x and the extra pairs of x. Then this list of the
+-- trie is equal to the list x.
 pub whole_is : (trie new : List (List (ℕ × ℕ))) (x : ℕ × List (ℕ × ℕ)) (i : ℕ) → AreStored trie → AreStored new
     → IsExtension trie x → i < length new
     → Unites (list_at new i) x.1 (list_at trie x.0) → list_at new i ≡ extended trie x
@@ -92,9 +93,11 @@ first_is : (trie : List (List (ℕ × ℕ))) (extensions : List (ℕ × List (�
     → list_at trie 0 ≡ [] → list_at (extended_lists trie extensions) 0 ≡ []
 first_is trie extensions are none = search (rules, get_or-map, are.first, merged_nil, none)
 
--- Suppose that the list with the ID 0 in the trie is empty. Suppose also that a list is not empty and is not in the
--- table yet. If this list is appended to the table, and its tag (a hash of 32 bits) is appended to the tags, all lists
--- of the table are stored correctly (`AreExtended`). In particular, no two of these lists are equal.
+-- The table stores lists, and the trie stores the parts that several of these lists can share. Suppose that all lists
+-- of the table are stored correctly (`AreExtended`), and that the list with the ID 0 in the trie is empty. Suppose also
+-- that a list is not empty and is not in the table yet. If this list is appended to the table, and its tag (a hash of
+-- 32 bits) is appended to the tags, all lists of the table are still stored correctly. In particular, no two of these
+-- lists are equal.
 module _ (trie : List (List (ℕ × ℕ))) (extensions : List (ℕ × List (ℕ × ℕ))) (tags : List ℕ) (x : ℕ × List (ℕ × ℕ))
     (tag : ℕ)
     (are : AreExtended trie extensions tags) where
@@ -127,17 +130,18 @@ AreLists-extended {trie} {extensions} {tags} stored are few =
     (λ x is. merged_ascending _ _ (stored.ascending x.0 [] is.base) is.ascending) extensions are.each) in
     search (rules, length-map, tags_size, first_is, stored, are)
 
--- A list is stored as a base, which is a list of pairs that several lists can share, and as extra pairs, which the base
--- lacks. The base with the ID 0 is the empty list. If the base of a list has another ID, or if there are extra pairs,
--- then the list is not empty.
+-- A list is stored in two parts: its base, which is a list of pairs that several lists can share, and its extra pairs,
+-- which are all other pairs of the list. The base with the ID 0 is the empty list. Suppose that the base of a list has
+-- another ID, or that the list has extra pairs. Then the list is not empty.
 pub extended_some : (trie : List (List (ℕ × ℕ))) (x : ℕ × List (ℕ × ℕ)) → AreStored trie → AreDifferent trie
     → IsExtension trie x → (x.0 ≡ 0 → x.1 ≡ [] → ⊥) → extended trie x ≡ [] → ⊥
 extended_some trie x stored different is some e =
     let longer = length_union pair_cmp (list_at trie x.0) x.1 in
     search (rules, longer, nil_from_length, different, is.base, stored.some, stored.first)
 
--- In the model of `Interner`, a list is stored as a base, which is a list of pairs that several lists can share, and as
--- extra pairs, which the base lacks. A pair is in the list if and only if the pair is in the base or is an extra pair.
+-- In the model of `Interner`, a list is stored in two parts: its base, which is a list of pairs that several lists can
+-- share, and its extra pairs, which are all other pairs of the list. A pair is in the list if and only if the pair is
+-- in the base or is an extra pair.
 pub has_either : (trie : List (List (ℕ × ℕ))) (extensions : List (ℕ × List (ℕ × ℕ))) {lists : List (List (ℕ × ℕ))}
     → extended_lists trie extensions ≡ lists → (k : ℕ) → k < length lists → (x : ℕ × List (ℕ × ℕ))
     → x ≡ extension_at extensions k → (z : ℕ × ℕ)
@@ -146,8 +150,8 @@ has_either trie extensions view k low x e z =
     let is : list_at (extended_lists trie extensions) k ≡ extended trie x = search (rules, get_or-map, length-map) in
     rw (← view, is) (merged_has z (list_at trie x.0) x.1)
 
--- Suppose that one of several lists has all pairs of the other lists and all pairs in `pairs`. Then this list is the
--- union of all these lists and of `pairs`.
+-- Suppose that one of several lists contains all pairs of the other lists and all pairs in `pairs`. Then this list is
+-- the union of all these lists and of `pairs`.
 pub includes_all : (lists : List (List (ℕ × ℕ))) (ids : List ℕ) (pairs : List (ℕ × ℕ)) (i : ℕ) → i < length ids
     → All (λ j. Includes (list_at lists (slice_index ids i)) (list_at lists j)) ids
     → All (Contains (list_at lists (slice_index ids i))) pairs

@@ -27,8 +27,8 @@ IsCutPoint-highest low high bit before reaches below =
     let high_same : high / 2 ^ (bit + 1) ≡ high / 2 ^ bit * 2 ^ bit / 2 ^ (bit + 1) = search rules in
     search (rules, div-mul-le_self)
 
--- The code uses `leading_zeros` to compute the position of the highest bit in which `low` and `high` differ. It uses
--- two shifts to clear the lower bits of `high`.
+-- The code uses `leading_zeros` to compute the position of the highest bit in which `low` and `high` differ. The code
+-- then uses two shifts to clear the lower bits of `high`.
 module _ (low high : ℕ) (before : low < high) (fits : high < 2 ^ 64) where
   top : (bit : ℕ) × (count_leading_zeros 64 (bit_xor low high) + suc bit ≡ 64) × (2 ^ bit ≤ bit_xor low high)
       × (bit_xor low high < 2 ^ suc bit)

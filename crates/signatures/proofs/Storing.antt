@@ -38,11 +38,11 @@ pub IsHalved-grow : (lists new : List (List (ℕ × ℕ))) (k : ℕ) (h : Halves
 IsHalved-grow lists new k h grow low = search rules
 
 -- `AreStored` states conditions for the stored lists, for example that each of them is in strictly ascending order.
--- Suppose that the stored lists satisfy these conditions, and that a list in strictly ascending order is appended to
--- them. If this list has more than 64 pairs (`MOST_WHOLE`), suppose also that its two halves are already stored. Then
--- the stored lists, including the appended list, satisfy the conditions of `AreStored`. The lemma also requires that
--- there are fewer than 2^32 - 1 lists (`MOST_LISTS`) before the list is appended, and that the second component of each
--- pair is less than 2^32 (`Fit`).
+-- Suppose that the stored lists satisfy these conditions, and that there are fewer than 2^32 - 1 stored lists
+-- (`MOST_LISTS`). Suppose also that a list in strictly ascending order is appended to the stored lists, and that the
+-- second component of each pair of this list is less than 2^32 (`Fit`). If this list has more than 64 pairs
+-- (`MOST_WHOLE`), suppose also that its two halves are already stored. Then the stored lists, including the appended
+-- list, satisfy the conditions of `AreStored`.
 pub AreStored-push : (lists : List (List (ℕ × ℕ))) (list : List (ℕ × ℕ)) → AreStored lists → length lists < MOST_LISTS
     → IsStrictlySortedBy pair_cmp list → Fit list
     → (MOST_WHOLE < length list → (h : Halves) × IsHalved (lists ++ list ∷ []) (length lists) h)
@@ -82,7 +82,7 @@ module _ (pairs : List (ℕ × ℕ)) (nodes : List Node) where
   list_whole k start count low e = to_at (length nodes) k low ∙ ap (list_of_node pairs (lists_to pairs nodes k)) e
 
 -- Each list is stored in a node, as a range of pairs or as the IDs of its two halves. Suppose that a list has more than
--- 64 pairs (`MOST_WHOLE`). Then the node of this list has the IDs of the two halves.
+-- 64 pairs (`MOST_WHOLE`). Then the node of this list contains the IDs of the two halves.
 kept_long : (pairs : List (ℕ × ℕ)) (lists new : List (List (ℕ × ℕ))) (k : ℕ) (node : Node) → StoresNode pairs new k node
     → MOST_WHOLE < length (list_of_node pairs lists node) → (h : Halves) × IsHalved new k h
 kept_long pairs lists new k (Whole start count) is long = search (rules, length-part)
@@ -115,9 +115,9 @@ module _ (pairs more : List (ℕ × ℕ)) (nodes : List Node) (new : Node) (are 
       rw (longer, to_agree (length nodes) (omega arith), get_or_push nodes new (Whole 0 0) _ refl)
 
   -- Suppose that the appended node stores its list correctly (`StoresNode`), and that this list is in strictly
-  -- ascending order. Then all nodes, including the appended node, store their lists correctly (`AreNodes`). The lemma
-  -- also requires that there are fewer than 2^32 - 1 nodes (`MOST_LISTS`) before the node is appended, and that the
-  -- second component of each pair of the list is less than 2^32 (`Fit`).
+  -- ascending order. Suppose also that the second component of each pair of the list is less than 2^32 (`Fit`), and
+  -- that there are fewer than 2^32 - 1 nodes (`MOST_LISTS`) before the node is appended. Then all nodes, including the
+  -- appended node, store their lists correctly (`AreNodes`).
   pub AreNodes-push : length nodes < MOST_LISTS → IsStrictlySortedBy pair_cmp list → Fit list
       → StoresNode (pairs ++ more) (lists_of_nodes pairs nodes ++ list ∷ []) (length nodes) new
       → AreNodes (pairs ++ more) (nodes ++ new ∷ [])
@@ -142,8 +142,8 @@ module _ (pairs more : List (ℕ × ℕ)) (nodes : List Node) (new : Node) (are 
         ));
       }
 
--- Each node stores one list. If there is a single node, and this node has no pairs, then the empty list is the only
--- stored list.
+-- Each node stores one list. If there is a single node, and this node contains no pairs, then the empty list is the
+-- only stored list.
 pub lists-first : lists_of_nodes [] (Whole 0 0 ∷ []) ≡ [] ∷ []
 unfolding lists_to
 lists-first = refl
@@ -157,17 +157,17 @@ pub nodes-cleared : (pairs : List (ℕ × ℕ)) (nodes : List Node) → AreNodes
 nodes-cleared pairs [] are = absurd (let some = are.stored.some in omega (arith, length-lists pairs []))
 nodes-cleared pairs (x ∷ xs) are = ap (λ n. n ∷ []) are.empty
 
--- A `Shape` describes a list in one of two ways: it has the pairs of the list, or the IDs of the two halves of the
--- list. Each node stores one list. `IsNext` holds if the list that the shape describes is stored in the following way:
--- the node `node` is appended to the nodes, and the buffer of pairs is extended from `pairs` to `new`.
+-- `IsNext` is about a `Shape`, which describes a list by the pairs of the list or by the IDs of its two halves. Each
+-- node stores one list. `IsNext` holds if the list that the shape describes is stored in the following way: the node
+-- `node` is appended to the nodes, and the buffer of pairs is extended from `pairs` to `new`.
 abbrev pub IsNext : List (ℕ × ℕ) → List (ℕ × ℕ) → Shape → Node → Type 0
 IsNext pairs new (Pairs list) node = (new ≡ pairs ++ list.now) × (node ≡ Whole (length pairs) (length list.now))
 IsNext pairs new (Cut h) node = (new ≡ pairs) × (node ≡ Halved h)
 
 -- A `Shape` describes a list by the pairs of the list, or by the IDs of its two halves. Suppose that this list is
--- stored by appending a node (`IsNext`). Then the list of this node is the last of the stored lists, all other stored
--- lists stay the same, and all lists are stored correctly (`AreNodes`). The last statement also requires that there are
--- fewer than 2^32 - 1 nodes (`MOST_LISTS`) before the node is appended, and that the list can be appended (`Suits`).
+-- stored by appending a node (`IsNext`). Then the list of this node is the last of the stored lists, and all other
+-- stored lists stay the same. Suppose also that there are fewer than 2^32 - 1 nodes (`MOST_LISTS`) before the node is
+-- appended, and that the list can be appended (`Suits`). Then all lists are stored correctly (`AreNodes`).
 module _ (pairs new : List (ℕ × ℕ)) (nodes : List Node) (node : Node) (are : AreNodes pairs nodes) where
   abbrev lists : List (List (ℕ × ℕ))
   lists = lists_of_nodes pairs nodes

@@ -1,5 +1,6 @@
--- The union cache stores the IDs of unions that were computed before. The entry that fills each empty slot of the cache
--- is a correct union. If a correct union is stored in the cache, all entries are still correct unions.
+-- The union cache is a hash table of unions that were computed before. Each entry of the cache contains the IDs of two
+-- lists and the ID of their union. The entry that fills each empty slot of the cache is correct. If a correct entry is
+-- stored in the cache, all entries are still correct.
 use Rattle.std.proofs.Common.{rules, ◌≡◌, ◌⊎◌, ◌↔◌, ℕ, ◌<◌, List, length, map, set, replicate, min, max, Contains, refl}
 use Rattle.std.proofs.Common.{inl, inr, arith, Result, IfOk, All}
 use Rattle.std.proofs.lemmas.Bool.{cases_lt}
@@ -16,13 +17,15 @@ pub none_stored : (unions : List Union) (n : ℕ) → unions ≡ replicate n NO_
 none_stored unions n e =
     rw e (All-map IsNone union_entry _ (All-replicate (λ u. IsNone (union_entry u)) n NO_UNION refl))
 
--- Suppose that one slot of the union cache is overwritten with a new entry. Then each entry that is in the cache after
--- this is the new entry, or was in the cache before.
+-- The union cache is a hash table of unions that were computed before. Suppose that one slot of the cache is
+-- overwritten with a new entry. Then each entry that the cache contains after this is the new entry, or was in the
+-- cache before.
 pub written : (unions : List Union) (p : ℕ) (u : Union) (z : (ℕ × ℕ) × ℕ)
     → Contains (map union_entry (set unions p u)) z → Contains (map union_entry unions) z ⊎ (z ≡ union_entry u)
 written unions p u z has = search (rules, map-set)
 
--- The union of the empty list with itself is the empty list.
+-- If the list with the ID 0 is united with itself, the union is the same list. In the union cache, which is a hash
+-- table of unions that were computed before, this union fills each empty slot.
 pub IsUnion-none : (lists : List (List (ℕ × ℕ))) → 0 < length lists → IsUnion lists (0, 0) 0
 IsUnion-none lists some = search rules
 
@@ -39,9 +42,9 @@ IsUnion-in_order lists j k i = elim (cases_lt j k) [
       rw (order.0, order.1) (IsUnion-swap, IsUnion-swap)
 ]
 
--- An entry of the union cache has the IDs of two lists and the ID of their union. Suppose that each entry of the cache
--- is correct (`IsUnion`). If a correct entry is stored in the cache, each entry is still correct, even if old entries
--- are removed.
+-- The union cache is a hash table of unions that were computed before. An entry of the cache contains the IDs of two
+-- lists and the ID of their union. Suppose that each entry of the cache is correct (`IsUnion`). If a correct entry is
+-- stored in the cache, each entry is still correct, even if old entries are removed.
 pub AreUnions-store : {lists : List (List (ℕ × ℕ))} (unions stored : List ((ℕ × ℕ) × ℕ)) (key : ℕ × ℕ) (i : ℕ)
     → AreUnions lists unions → IsUnion lists key i
     → ((z : (ℕ × ℕ) × ℕ) → Contains stored z → Contains unions z ⊎ IsNone z ⊎ (z ≡ (key, i))) → AreUnions lists stored

@@ -1,8 +1,8 @@
--- The split point of a list is the number at which the list is divided into two halves. To compare a pair with this
--- number, the pair is represented by a number (`pair_value`). The first half has the pairs that are less than the split
--- point, and the second half has all other pairs. To compute the union of two lists, each of the two lists is divided
--- at the split point of the union into a lower and an upper part. The union of the two lower parts is the first half of
--- the result, and the union of the two upper parts is the second half.
+-- The split point of a list is the number at which the list is divided into two halves. To compare a pair (x, y) with
+-- the split point, the pair is represented by the number x * 2^32 + y (`pair_value`). The first half contains the pairs
+-- that are less than the split point, and the second half contains all other pairs. To compute the union of two lists,
+-- each of the two lists is divided at the split point of the union into a lower and an upper part. The union of the two
+-- lower parts is the first half of the result, and the union of the two upper parts is the second half.
 use Rattle.std.proofs.Common.{◌≡◌, ◌⊎◌, ◌↔◌, ℕ, ◌+◌, ◌-◌, ◌<◌, min, max, List, [], ◌++◌, length, sym, subst, refl, inr}
 use Rattle.std.proofs.Common.{arith, rules, length-append, append-nil}
 use Rattle.std.specs.List.Sorted.{IsStrictlySortedBy}
@@ -18,9 +18,9 @@ use Rattle.signatures.proofs.Merging.{merged_has}
 use Rattle.signatures.proofs.Joining.{or_swap}
 use Rattle.signatures.proofs.Ascending.{ascending_fewer}
 
--- Each pair is represented by a number (`pair_value`). If the numbers for all pairs of a list are less than c, then c
--- divides the list into the whole list and the empty list. If the numbers for all pairs are at least c, then c divides
--- the list into the empty list and the whole list.
+-- Each pair (x, y) is represented by the number x * 2^32 + y (`pair_value`). Suppose that the numbers for all pairs of
+-- a list are less than c. Then c divides the list into the whole list and the empty list. Suppose instead that the
+-- numbers for all pairs of the list are at least c. Then c divides the list into the empty list and the whole list.
 pub IsParted-under : {list : List (ℕ × ℕ)} {c : ℕ} → IsUnder list c → IsParted list c list []
 IsParted-under {list} under = record { joined = sym (append-nil list); under = under; over = search rules }
 
@@ -28,8 +28,8 @@ pub IsParted-over : {list : List (ℕ × ℕ)} {c : ℕ} → IsOver list c → I
 IsParted-over over = record { joined = refl; under = search rules; over = over }
 
 -- Suppose that a list is stored as two halves. Then the list has more than 64 pairs (`MOST_WHOLE`). The number that is
--- stored with the halves is the split point of the list (`IsCut`). One half has the pairs that are less than this
--- number, and the other half has the other pairs.
+-- stored with the halves is the number at which the list has to be divided (`IsCut`). One half contains the pairs whose
+-- numbers (`pair_value`) are less than the stored number, and the other half contains the other pairs.
 pub halved_long : {lists : List (List (ℕ × ℕ))} {k : ℕ} {h : Halves} → IsHalved lists k h →
     MOST_WHOLE < length (list_at lists k)
 halved_long {lists} {h} is = search (rules, is.halves.long, is.list, length-append, h.below, h.above)
@@ -50,8 +50,9 @@ pub parted_grown : {lists mid new : List (List (ℕ × ℕ))} {k c below above :
     → IsParted (list_at lists k) c (list_at mid below) (list_at new above)
 parted_grown {below} {above} first second is low = search rules
 
--- `AreUnited` holds if the union of xs and ys has two halves that are stored in `lists`, and if h has the IDs of these
--- halves.
+-- `AreUnited` holds if the union of xs and ys is a long list, if the two halves of the union are stored in `lists`, and
+-- if h contains the IDs of these two halves. A long list is a list of more than 64 pairs (`MOST_WHOLE`). The union is
+-- divided into its two halves at the number `h.cut`.
 abbrev pub AreUnited : List (List (ℕ × ℕ)) → Halves → List (ℕ × ℕ) → List (ℕ × ℕ) → Type 0
 AreUnited lists h xs ys = AreHalvesIn lists h × Unites (list_at lists h.below ++ list_at lists h.above) xs ys
 
@@ -59,14 +60,15 @@ either_mixed : {W L U B C A D X Y : Type 0} → W ↔ (L ⊎ U) → L ↔ (B ⊎
     Y ↔ (C ⊎ D) → W ↔ (X ⊎ Y)
 either_mixed whole low high first second = search rules
 
--- These lemmas are about two lists xs and ys of pairs. The number c divides each list into a lower part, which has the
--- pairs less than c, and an upper part, which has the other pairs.
+-- These lemmas are about two lists xs and ys of pairs. The number c divides each of these lists into a lower part,
+-- which contains the pairs whose numbers (`pair_value`) are less than c, and an upper part, which contains the other
+-- pairs.
 module _ {xs ys below above below' above' : List (ℕ × ℕ)} {c : ℕ} (first : IsParted xs c below above)
     (second : IsParted ys c below' above') where
-  -- The number c divides each of the lists xs and ys into a lower part, which has the pairs less than c, and an upper
-  -- part, which has the other pairs. Suppose that `lower` is the union of the two lower parts, and that `upper` is the
-  -- union of the two upper parts. Then `lower` followed by `upper` is the union of xs and ys. All pairs of `lower` are
-  -- less than c, and all pairs of `upper` are at least c.
+  -- The number c divides each of the lists xs and ys into a lower part, which contains the pairs whose numbers
+  -- (`pair_value`) are less than c, and an upper part, which contains the other pairs. Suppose that `lower` is the
+  -- union of the two lower parts, and that `upper` is the union of the two upper parts. Then `lower` followed by
+  -- `upper` is the union of xs and ys. All pairs of `lower` are less than c, and all pairs of `upper` are at least c.
   module _ (lower upper : List (ℕ × ℕ)) (low : Unites lower below below') (high : Unites upper above above') where
     pub united : Unites (lower ++ upper) xs ys
     united z = either_mixed (halves_has lower upper z) (low z) (high z) (parts_has first z) (parts_has second z)
@@ -80,10 +82,10 @@ module _ {xs ys below above below' above' : List (ℕ × ℕ)} {c : ℕ} (first 
     united_parted : IsParted (lower ++ upper) c lower upper
     united_parted = record { joined = refl; under = united_under; over = united_over }
 
-  -- Let c be the split point of the union of the lists xs and ys, which is the number at which the union is divided
-  -- into two halves. Then c divides each of xs and ys into a lower part, which has the pairs less than c, and an upper
-  -- part, which has the other pairs. The two lower parts together have fewer pairs than xs and ys together. The two
-  -- upper parts together also have fewer pairs than xs and ys together.
+  -- Let c be the number at which the union of the lists xs and ys is divided into two halves (`IsCut`). Then c divides
+  -- each of xs and ys into a lower part, which contains the pairs whose numbers (`pair_value`) are less than c, and an
+  -- upper part, which contains the other pairs. The two lower parts together have fewer pairs than xs and ys together.
+  -- The two upper parts together also have fewer pairs than xs and ys together.
   pub parts_fewer : ((list : List (ℕ × ℕ)) → Unites list xs ys → IsCut list c)
       → (length below + length below' < length xs + length ys) × (length above + length above' < length xs + length ys)
   parts_fewer cuts =
@@ -92,11 +94,11 @@ module _ {xs ys below above below' above' : List (ℕ × ℕ)} {c : ℕ} (first 
       let shorter = parts_shorter (united_parted _ _ low high) (cuts _ (united _ _ low high)) in
       grind (arith, length-append, shorter, first.joined, second.joined)
 
-  -- Let c be the split point of the union of the lists xs and ys, which is the number at which the union is divided
-  -- into two halves. Then c divides each of xs and ys into a lower part, which has the pairs less than c, and an upper
-  -- part, which has the other pairs. Suppose that ys is in strictly ascending order and has more than 64 pairs
-  -- (`MOST_WHOLE`). Then the first half of the union is the union of the two lower parts, and the second half of the
-  -- union is the union of the two upper parts.
+  -- Let c be the number at which the union of the lists xs and ys is divided into two halves (`IsCut`). Then c divides
+  -- each of xs and ys into a lower part, which contains the pairs whose numbers (`pair_value`) are less than c, and an
+  -- upper part, which contains the other pairs. Suppose that ys is in strictly ascending order and has more than 64
+  -- pairs (`MOST_WHOLE`). Then the first half of the union is the union of the two lower parts, and the second half of
+  -- the union is the union of the two upper parts.
   pub AreUnited-parts : {mid new : List (List (ℕ × ℕ))} {b a : ℕ} → Grow mid new
       → b < length mid → Unites (list_at mid b) below below' → a < length new → Unites (list_at new a) above above'
       → IsStrictlySortedBy pair_cmp ys → MOST_WHOLE < length ys
@@ -135,6 +137,6 @@ placed {bit = bit} {l} {h} {c} place first second l_is h_is = (
   λ list unites. IsCut-ends (HasEnds-union first second unites) (rw (l_is, h_is) at place),
 )
 
--- The merge of two lists has exactly the pairs of both lists.
+-- The merge of two lists contains exactly the pairs of both lists.
 pub unites_merged : (list xs ys : List (ℕ × ℕ)) → list ≡ merged xs ys → Unites list ys xs
 unites_merged list xs ys e = rw e (λ z. or_swap (merged_has z xs ys))

@@ -23,9 +23,9 @@ tag_of list = mixed (fingerprint_of list)
 abbrev pub AreDifferent : List (List (ℕ × ℕ)) → Type 0
 AreDifferent lists = (j k : ℕ) → j < length lists → k < length lists → list_at lists j ≡ list_at lists k → j ≡ k
 
--- `IsHashed` holds under three conditions. First, no two of the lists are equal. Second, the element of `sums` at each
--- index k is the fingerprint (a hash of 64 bits) of the list with the ID k. Third, the element of `tags` at each index
--- k is the tag (a hash of 32 bits) of the list with the ID k.
+-- `IsHashed` holds if all three of the following conditions hold. First, no two of the lists are equal. Second, the
+-- element of `sums` at each index k is the fingerprint (a hash of 64 bits) of the list with the ID k. Third, the
+-- element of `tags` at each index k is the tag (a hash of 32 bits) of the list with the ID k.
 pub record IsHashed (lists : List (List (ℕ × ℕ))) (sums tags : List ℕ) : Type 0 where
   pub are_sums : sums ≡ map fingerprint_of lists
   pub are_tags : tags ≡ map tag_of lists

@@ -1,6 +1,6 @@
 //! Computes the split point of a list of pairs, which is the number at which the list is divided into two halves. To
-//! compare a pair with the split point, the pair is represented by a number. The first half has the pairs that are less
-//! than the split point, and the second half has all other pairs.
+//! compare a pair (x, y) with the split point, the pair is represented by the number x * 2^32 + y. The first half
+//! contains the pairs that are less than the split point, and the second half contains all other pairs.
 ghost use Rattle.std.specs.Prelude.{◌≡◌, ℕ, ◌<◌};
 ghost use Rattle.std.specs.List.Sorted.{IsStrictlySortedBy};
 ghost use Rattle.signatures.specs.Lists.{pair_cmp};
@@ -40,8 +40,8 @@ pub(crate) fn cut(low: u64, high: u64) -> u64
 }
 
 /// Divides the list `pairs` into two parts at the number `cut`. To compare a pair with `cut`, the pair is represented
-/// by a number (`key`). The first part has the pairs that are less than `cut`, and the second part has the pairs that
-/// are at least `cut`.
+/// by a number (`key`). The first part contains the pairs that are less than `cut`, and the second part contains the
+/// pairs that are at least `cut`.
 pub(crate) fn parted(pairs: &[(u32, u32)], cut: u64) -> (&[(u32, u32)], &[(u32, u32)])
     requires ascending { IsStrictlySortedBy pair_cmp pairs.now }
     requires fit { Fit pairs.now }

@@ -1,6 +1,6 @@
-//! Stores each list of pairs in two parts: the ID of a base, which is a list of pairs that several lists can share, and
-//! extra pairs, which the base lacks. The bases are stored in the trie. A list has at most 64 extra pairs
-//! (`MOST_WHOLE`).
+//! Stores each list of pairs in two parts: the ID of its base, which is a list of pairs that several lists can share,
+//! and its extra pairs, which are all other pairs of the list. The bases are stored in a separate store, which is
+//! called the trie. A list has at most 64 extra pairs (`MOST_WHOLE`).
 ghost use Rattle.std.specs.Prelude.{◌≡◌, ◌++◌, ◌∷◌, ◌<◌, ◌≤◌, [], length, IfOk, OnOk, OnErr};
 ghost use Rattle.signatures.specs.Extensions.{parts_of, extension_at};
 ghost use Rattle.signatures.specs.declared.nodes.TheConstants.{MOST_WHOLE};
@@ -11,17 +11,18 @@ use memory::Memory;
 use std::alloc::Global;
 use std::marker::Model;
 
-/// A list of pairs, given by the ID of a base, which is a list that several lists can share, and by extra pairs, which
-/// the base lacks.
+/// A list of pairs, given in two parts: the ID of its base, which is a list of pairs that several lists can share, and
+/// its extra pairs, which are all other pairs of the list.
 #[derive(Clone, Copy)]
 pub(crate) struct Extension<'a> {
     pub base: u32,
     pub extra: &'a [(u32, u32)],
 }
 
-/// A slot of the table stores one list. The list consists of a base, which is a list of pairs that several lists can
-/// share, and of extra pairs, which the base lacks. The slot has the ID of the base. It also has the range of the extra
-/// pairs in one buffer, which stores the extra pairs of all lists.
+/// A slot is an entry of the table, and stores one list. The list is stored in two parts: its base, which is a list of
+/// pairs that several lists can share, and its extra pairs, which are all other pairs of the list. The slot contains
+/// the ID of the base. The slot also contains the range of the extra pairs in one buffer, which stores the extra pairs
+/// of all lists.
 #[derive(Clone, Copy)]
 struct Slot {
     base: u32,
@@ -29,16 +30,17 @@ struct Slot {
     start: usize,
 }
 
-/// The slot that stores the empty list. The base of a list is the part that several lists can share. For the empty
-/// list, the base is the empty list itself, and there are no extra pairs.
+/// The slot that stores the empty list. The base of a list is a part that several lists can share, and the extra pairs
+/// are all other pairs of the list. For the empty list, the base is the empty list itself, and there are no extra
+/// pairs.
 const NO_SLOT: Slot = Slot {
     base: EMPTY,
     count: 0,
     start: 0,
 };
 
-/// A table of lists. Each list is stored as the ID of a base, which is a list of pairs that several lists can share,
-/// and as extra pairs, which the base lacks.
+/// A table of lists. Each list is stored in two parts: the ID of its base, which is a list of pairs that several lists
+/// can share, and its extra pairs, which are all other pairs of the list.
 #[derive(Drop)]
 pub(crate) struct Extensions {
     /// The extra pairs of all lists, one list after the other. The extra pairs of a list are the pairs that are not in
@@ -60,7 +62,7 @@ impl Model for Extensions {
 }
 
 impl Extensions {
-    /// Makes a table that has only the empty list, and allocates memory for `room` other lists. Without this
+    /// Makes a table that contains only the empty list, and allocates memory for `room` other lists. Without this
     /// allocation, the table would grow by doubling, and would take up to a third more memory.
     pub fn new(alloc: Global, room: u32) -> Result<Extensions, Memory>
         ensures { IfOk result (λ x. x ≡ (0, []) ∷ []) }
@@ -73,8 +75,8 @@ impl Extensions {
         })
     }
 
-    /// Returns the list with the ID `k` in the form in which it is stored: as a base, which is a list of pairs that
-    /// several lists can share, and as extra pairs, which the base lacks.
+    /// Returns the list with the ID `k` in the two parts in which it is stored: the ID of its base, which is a list of
+    /// pairs that several lists can share, and its extra pairs, which are all other pairs of the list.
     pub fn of(&self, k: u32) -> Extension<'_>
         requires { k < length self.now }
         ensures { parts_of result ≡ extension_at self.now k }

@@ -7,7 +7,7 @@ use buckets::hash;
 const TAG_FACTOR: u64 = 0xC2B2_AE3D_27D4_EB4F;
 
 /// Computes the fingerprint of a list: the sum of the hashes of its pairs, modulo 2^64. Equal lists have equal
-/// fingerprints. Different lists rarely have equal fingerprints.
+/// fingerprints. Lists that are not equal rarely have equal fingerprints.
 pub(crate) fn fingerprint(list: &[(u32, u32)]) -> u64
     ensures { result ≡ fingerprint_of list.now }
 {
@@ -19,8 +19,8 @@ pub(crate) fn fingerprint(list: &[(u32, u32)]) -> u64
 }
 
 /// Multiplies the number by a constant, modulo 2^64, and returns the upper 32 bits of the product. The number is the
-/// fingerprint of a list (a hash of 64 bits), or another hash. Without the multiplication, lists that differ in only a
-/// few components would have results that are close together.
+/// fingerprint of a list (a hash of 64 bits), or another hash. Without the multiplication, the results for lists that
+/// differ in only a few numbers would be close together.
 #[inline(always)]
 pub(crate) fn mix(number: u64) -> u32
     ensures { result ≡ mixed number }

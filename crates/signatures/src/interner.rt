@@ -1,6 +1,6 @@
 //! This module is the public layer of the crate. It interns lists of pairs, and computes unions of these lists. A list
-//! is stored as a base, which is a list of pairs that several lists can share, and as extra pairs, which the base
-//! lacks.
+//! is stored in two parts: its base, which is a list of pairs that several lists can share, and its extra pairs, which
+//! are all other pairs of the list.
 ghost use Rattle.std.specs.Prelude.{◌≡◌, ◌⊎◌, ◌↔◌, ℕ, ◌++◌, ◌∷◌, ◌<◌, List, [], length, IfOk, IfSome, OnOk, OnErr};
 ghost use Rattle.std.specs.Prelude.{IsTrue};
 ghost use Rattle.std.specs.List.{All, Contains};
@@ -27,8 +27,8 @@ pub struct Interner {
     table: Table,
 }
 
-/// `Drop` is implemented explicitly, so that dropping an interner takes only one function call. A derived
-/// implementation would make one call for each field.
+/// `Drop` is implemented explicitly, so that dropping an interner takes only one function call. The implementation that
+/// `#[derive(Drop)]` generates would make one call for each field.
 impl Drop for Interner {
     fn drop(self) {
         let Interner { bases: _, table: _ } = self;
@@ -48,8 +48,8 @@ impl Model for Interner {
 }
 
 impl Interner {
-    /// Makes an interner that has only the empty list, and allocates memory for `room` other lists. Without this
-    /// allocation, the tables would grow by doubling, and would take up to a third more memory.
+    /// Makes an interner that contains only the empty list, and allocates memory for `room` other lists. Without this
+    /// allocation, the tables of the interner would grow by doubling, and would take up to a third more memory.
     pub fn new(alloc: Global, room: u32) -> Result<Interner, Memory>
         ensures { IfOk result (λ x. x ≡ [] ∷ []) }
     {
@@ -68,7 +68,7 @@ impl Interner {
     }
 
     /// This call is a lemma: it does nothing at run time. Its contract states properties that the lists of every
-    /// interner have (`AreLists`).
+    /// interner have (`AreLists`), for example that no two of these lists are equal.
     pub fn invariants(&self)
         ensures { AreLists self.now }
     {
@@ -102,8 +102,8 @@ impl Interner {
         Ok(())
     }
 
-    /// Interns the list `pairs`: returns the ID of the list that is equal to `pairs`. If there is no such list, the
-    /// call adds `pairs` as a new list.
+    /// Interns the list `pairs`: returns the ID of the stored list that is equal to `pairs`. If there is no such list,
+    /// the call adds `pairs` as a new list, and returns the ID of this new list.
     pub fn push(&mut self, pairs: &[(u32, u32)]) -> Result<u32, Memory>
         requires { IsStrictlySortedBy pair_cmp pairs.now }
         ensures within { IfOk result (λ k. k < length self.new) }
@@ -131,9 +131,10 @@ impl Interner {
         self.bases.trie.has(list.base, pair)
     }
 
-    /// If the result is true, the list with the ID `k` has all pairs of the list with the ID `j`. A list is stored as a
-    /// base, which is a list of pairs that several lists can share, and as extra pairs, which the base lacks. If the
-    /// bases of the two lists are different, the call compares no pairs, and returns false.
+    /// If the result is true, the list with the ID `k` contains all pairs of the list with the ID `j`. A list is stored
+    /// in two parts: its base, which is a list of pairs that several lists can share, and its extra pairs, which are
+    /// all other pairs of the list. If the two lists do not have the same base, the call compares no pairs, and returns
+    /// false.
     fn has_list(&self, k: u32, j: u32) -> bool
         requires list { k < length self.now }
         requires other { j < length self.now }
@@ -144,9 +145,11 @@ impl Interner {
         list.base == other.base && has_all(list.extra, other.extra)
     }
 
-    /// A quick test can show that the last list with an ID in `lists` has all pairs of the other lists with an ID in
-    /// `lists`, and all pairs in `pairs`. Then this last list is the union of all these lists and of `pairs`, and the
-    /// call returns its ID, so that nothing needs to be sorted. In all other cases, the call returns `None`.
+    /// Tests quickly whether the list with the last ID in `lists` contains all pairs of the other lists with an ID in
+    /// `lists`, and all pairs in `pairs`. If the test succeeds, this list is the union of all these lists and of
+    /// `pairs`. The call then returns the ID of this list, so that nothing has to be sorted. If the test fails, or if
+    /// `lists` contains fewer than two IDs, the call returns `None`. The test can fail even if the list contains all
+    /// these pairs.
     fn last_with_all(&self, lists: &[u32], pairs: &[(u32, u32)]) -> Option<u32>
         requires { AreIds self.now lists.now }
         ensures within { IfSome result (λ k. k < length self.now) }
@@ -154,8 +157,8 @@ impl Interner {
             (λ k. (z : ℕ × ℕ) → Contains (list_at self.now k) z
             ↔ (Contains pairs.now z ⊎ HasOne self.now lists.now z)) }
     {
-        // The test is made only if there are at least two lists. A single list mostly lacks some pairs of the union, so
-        // that the test would waste time.
+        // The test is made only if there are at least two lists. A single list usually lacks some pairs of the union,
+        // so that the test would waste time.
         let [_, .., list] = lists else {
             return None;
         };
@@ -169,9 +172,9 @@ impl Interner {
     /// pairs may be in any order. The call uses `pairs` as working memory, so that the contents of `pairs` after the
     /// call are unspecified.
     ///
-    /// Each list is stored in two parts: a base, which is a list of pairs that several lists can share, and the extra
-    /// pairs, which the base lacks. To unite the lists, the call first computes and stores unions of their bases. If
-    /// the call fails, the unions that it has already stored are not removed.
+    /// Each list is stored in two parts: its base, which is a list of pairs that several lists can share, and its extra
+    /// pairs, which are all other pairs of the list. To compute the union of the lists, the call first computes and
+    /// stores unions of their bases. If the call fails, the unions that it has already stored are not removed.
     pub fn join(&mut self, lists: &[u32], pairs: &mut Vec<(u32, u32)>) -> Result<u32, Memory>
         requires { AreIds self.old lists.now }
 
@@ -201,8 +204,8 @@ impl Interner {
     }
 }
 
-/// If the result is true, the list with the ID `k` has all pairs of each list with an ID in `ids`. If `has_list`
-/// returns false for one of the lists other than `k`, the result is false.
+/// If the result is true, the list with the ID `k` contains all pairs of each list with an ID in `ids`. The result is
+/// false if the method `has_list` returns false for `k` and an ID in `ids` other than `k`.
 fn has_lists(lists: &Interner, k: u32, ids: &[u32]) -> bool
     requires list { k < length lists.now }
     requires ids { AreIds lists.now ids.now }

@@ -1,5 +1,6 @@
-//! Computes the union of several lists and of some pairs, in the form in which lists are stored: as a base, which is a
-//! list of pairs that several lists can share, and as extra pairs, which are the pairs that the base lacks.
+//! Computes the union of several lists and of some pairs. Lists are stored in two parts: a base, which is a list of
+//! pairs that several lists can share, and extra pairs, which are all other pairs of the list. The union is computed in
+//! the same form.
 ghost use Rattle.std.specs.Prelude.{◌≡◌, ◌⊎◌, ◌↔◌, ℕ, ◌<◌, length, IfOk, OnOk, IsTrue, Some};
 ghost use Rattle.std.specs.List.{All, Contains};
 ghost use Rattle.std.specs.List.Sorted.{IsStrictlySortedBy};
@@ -15,19 +16,20 @@ use buckets::EMPTY;
 use memory::Memory;
 use std::mem::swap;
 
-/// Lists and their unions are stored as a base, which is a list of pairs that several lists can share, and as extra
-/// pairs, which the base lacks. Suppose that a union is made of at most 16 lists (`MOST_MERGED_LISTS`). Then the extra
-/// pairs of each list that has the same base as the union are merged into the union, one list after the other. Each
-/// merge copies the pairs that were merged before. Without the bound on the number of lists, the time would be
-/// proportional to the number of pairs times the number of lists. This time would be too long for a state that has
-/// inert transitions (internal transitions within its block) to 80,000 other states, if each of these states has a
-/// transition with its own label. With the bound, each pair is copied at most 16 times. If the pairs were always
-/// sorted, and never merged, the minimisation of systems that are grids would take 3 % more time.
+/// Each list, and also a union of lists, is stored in two parts: its base, which is a list of pairs that several lists
+/// can share, and its extra pairs, which are all other pairs of the list. If a union is made of at most 16 lists
+/// (`MOST_MERGED_LISTS`), the extra pairs of each list that has the same base as the union are merged into the union,
+/// one list after the other. Each merge copies the pairs that were merged before, so that each pair is copied at most
+/// 16 times. If the extra pairs of more lists were merged in this way, the time would be proportional to the number of
+/// pairs times the number of lists. This time would be too long for a state that has inert transitions (internal
+/// transitions within its block) to 80,000 other states, if each of these states has a transition with its own label.
+/// If the pairs were always sorted, and never merged, the minimisation of systems that are grids would take 3 % more
+/// time.
 const MOST_MERGED_LISTS: usize = 16;
 
-/// Computes the union of the lists with the IDs `ids` and of `pairs`. The call returns the ID of a base, which is a
-/// list of pairs that several lists can share, and replaces the contents of `pairs` by the extra pairs, which the base
-/// lacks. The union has exactly the pairs of this base and these extra pairs.
+/// Computes the union of the lists with the IDs `ids` and of `pairs`. The union is returned in two parts: its base,
+/// which is a list of pairs that several lists can share, and its extra pairs, which are all other pairs of the union.
+/// The result of the call is the ID of the base. The call replaces the contents of `pairs` by the extra pairs.
 pub(crate) fn union_of(
     bases: &mut Bases,
     extensions: &Extensions,
@@ -52,10 +54,11 @@ pub(crate) fn union_of(
     Ok(base)
 }
 
-/// Each list has a base, which is a list of pairs that several lists can share. The bases are stored in the trie. The
-/// function `base_of` computes the union of the bases of the lists with the IDs `ids`, and returns the ID of this union
-/// in the trie. It divides `ids` into two halves, computes the union of the bases for each half, and then unites the
-/// two results. If it processed the IDs one after the other instead, it would build the whole union again for each ID.
+/// Each list has a base, which is a list of pairs that several lists can share. The bases are stored in a separate
+/// store, which is called the trie. The function `base_of` computes the union of the bases of the lists with the IDs
+/// `ids`, and returns the ID of this union in the trie. The function divides `ids` into two halves, computes the union
+/// of the bases for each half, and then unites the two results. If the function processed the IDs one after the other
+/// instead, it would build the whole union again for each ID.
 fn base_of(bases: &mut Bases, extensions: &Extensions, ids: &[u32]) -> Result<u32, Memory>
     requires extensions { All (IsExtension bases.old.trie) extensions.now }
     requires ids { All (λ k. k < length extensions.now) ids.now }
@@ -78,11 +81,12 @@ fn base_of(bases: &mut Bases, extensions: &Extensions, ids: &[u32]) -> Result<u3
     bases.both(j, k)
 }
 
-/// Returns whether the base of a list, which is the part that several lists can share, is also the base of a union that
-/// is computed. The argument `base` is the ID of the base of the list. The argument `own` is the ID of the base of the
-/// union, or `None` if more than 16 lists are united (`MOST_MERGED_LISTS`). If `own` is `None`, the result is false. If
-/// the result is true, the extra pairs of the list, which its base lacks, are merged into the union. Otherwise, these
-/// extra pairs are sorted together with all other pairs.
+/// Each list, and also a union of lists, is stored in two parts: its base, which is a list of pairs that several lists
+/// can share, and its extra pairs, which are all other pairs of the list. The function `is_own` returns whether the
+/// base of a list is also the base of the union that is being computed. The argument `base` is the ID of the base of
+/// the list. The argument `own` is the ID of the base of the union, or `None` if more than 16 lists are united
+/// (`MOST_MERGED_LISTS`). If `own` is `None`, the result is false. If the result is true, the extra pairs of the list
+/// are merged into the union. If the result is false, these extra pairs are collected (`gather`) and sorted.
 #[inline(always)]
 fn is_own(own: Option<u32>, base: u32) -> bool
     ensures { IsTrue result ↔ (own ≡ Some base) }
@@ -90,9 +94,10 @@ fn is_own(own: Option<u32>, base: u32) -> bool
     own == Some(base)
 }
 
-/// A list is stored as a base, which is a list of pairs that several lists can share, and as extra pairs, which the
-/// base lacks. `gather` appends to `pairs` the extra pairs of each list that has an ID in `ids`, and whose base does
-/// not have the ID `own`. If `own` is `None`, this applies to all lists with an ID in `ids`.
+/// A list is stored in two parts: its base, which is a list of pairs that several lists can share, and its extra pairs,
+/// which are all other pairs of the list. The function `gather` appends to `pairs` the extra pairs of each list that
+/// has an ID in `ids`, and whose base does not have the ID `own`. If `own` is `None`, the function appends the extra
+/// pairs of all lists with an ID in `ids`.
 fn gather(
     extensions: &Extensions,
     ids: &[u32],
@@ -114,8 +119,8 @@ fn gather(
     Ok(())
 }
 
-/// Removes from `pairs` each pair that is in the list with the ID `base` in the trie. This list is a base, which is a
-/// list of pairs that several lists can share.
+/// Removes from `pairs` each pair that is in the list with the ID `base` in the trie. The trie stores bases, which are
+/// lists of pairs that several lists can share.
 fn remove_pairs_of(trie: &Trie, base: u32, pairs: &mut Vec<(u32, u32)>)
     requires base { base < length trie.now }
     requires ascending { IsStrictlySortedBy pair_cmp pairs.old.items }
@@ -132,9 +137,10 @@ fn remove_pairs_of(trie: &Trie, base: u32, pairs: &mut Vec<(u32, u32)>)
     pairs.retain(|pair| !trie.has(base, *pair));
 }
 
-/// A list is stored as a base, which is a list of pairs that several lists can share, and as extra pairs, which the
-/// base lacks. `merge` merges into `pairs` the extra pairs of each list that has an ID in `ids`, and whose base has the
-/// ID `own`. If `own` is `None`, the call changes nothing. The vector `held` is working memory for the merges.
+/// A list is stored in two parts: its base, which is a list of pairs that several lists can share, and its extra pairs,
+/// which are all other pairs of the list. The function `merge` merges into `pairs` the extra pairs of each list that
+/// has an ID in `ids`, and whose base has the ID `own`. If `own` is `None`, the function changes nothing. The vector
+/// `held` is working memory for the merges.
 fn merge(
     extensions: &Extensions,
     ids: &[u32],

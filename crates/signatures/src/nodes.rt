@@ -1,7 +1,8 @@
 //! This module is the lowest layer of the crate, and stores lists of pairs. A short list is stored as a range of pairs,
-//! and a long list is stored as the IDs of its two halves. A long list is divided into its halves at a number, which is
-//! called the split point of the list. To compare a pair with the split point, the pair is represented by a number. The
-//! first half has the pairs that are less than the split point, and the second half has the other pairs.
+//! and a long list is stored as the IDs of its two halves. The number at which a long list is divided into its halves
+//! is called the split point of the list. To compare a pair (x, y) with the split point, the pair is represented by the
+//! number x * 2^32 + y. The first half contains the pairs that are less than the split point, and the second half
+//! contains the other pairs.
 ghost use Rattle.std.specs.Prelude.{◌≡◌, ◌++◌, ◌∷◌, ◌+◌, ◌<◌, ◌≤◌, [], length, IfOk, OnOk, OnErr};
 ghost use Rattle.std.specs.List.{slice_range};
 ghost use Rattle.signatures.specs.Nodes.{list_of_shape, Suits, IsShape, AreStored};
@@ -14,12 +15,13 @@ use std::marker::Model;
 /// The largest number of lists. Up to this number, each list has an ID that fits into 32 bits.
 pub const MOST_LISTS: usize = 0xFFFF_FFFF;
 
-/// A list with at most this number of pairs is stored as a range of pairs. A longer list is stored as two halves.
+/// A list with at most this number of pairs is stored as a range of pairs. A longer list is stored as the IDs of its
+/// two halves.
 pub(crate) const MOST_WHOLE: usize = 64;
 
-/// The IDs of the two halves of a list, and the split point of the list (`cut`), which is the number at which the list
-/// is divided into these halves. To compare a pair with `cut`, the pair is represented by a number. The half with the
-/// ID `below` has the pairs that are less than `cut`, and the half with the ID `above` has the other pairs.
+/// The IDs of the two halves of a list, and the number at which the list is divided into these halves (`cut`). To
+/// compare a pair (x, y) with `cut`, the pair is represented by the number x * 2^32 + y. The half with the ID `below`
+/// contains the pairs that are less than `cut`, and the half with the ID `above` contains the other pairs.
 #[derive(Clone, Copy, PartialEq, Eq)]
 pub(crate) struct Halves {
     pub below: u32,
@@ -27,8 +29,8 @@ pub(crate) struct Halves {
     pub cut: u64,
 }
 
-/// A node stores one list. It has either the range of the pairs of the list in a buffer (`count` pairs from the index
-/// `start` on), or the IDs of the two halves of the list.
+/// A node stores one list. The node contains either the range of the pairs of the list in a buffer (`count` pairs from
+/// the index `start` on), or the IDs of the two halves of the list.
 #[derive(Clone, Copy)]
 enum Node {
     Whole { start: usize, count: u32 },
@@ -48,7 +50,8 @@ pub(crate) enum Shape<'a> {
 pub(crate) struct Nodes {
     /// The pairs of all lists that are stored as ranges of pairs, one list after the other.
     pairs: Vec<(u32, u32)>,
-    /// The node of each list. A node has the range of the pairs of its list, or the IDs of the two halves of its list.
+    /// The node of each list. A node contains the range of the pairs of its list, or the IDs of the two halves of its
+    /// list.
     nodes: Vec<Node>,
 }
 
@@ -65,7 +68,7 @@ impl Model for Nodes {
 }
 
 impl Nodes {
-    /// Makes a store of lists that has only the empty list.
+    /// Makes a store of lists that contains only the empty list.
     pub fn new(alloc: Global) -> Result<Nodes, Memory>
         ensures { IfOk result (λ x. x ≡ [] ∷ []) }
     {
@@ -78,7 +81,7 @@ impl Nodes {
     }
 
     /// This call is a lemma: it does nothing at run time. Its contract states properties that the lists of every store
-    /// have (`AreStored`).
+    /// have (`AreStored`), for example that each list is in strictly ascending order.
     pub fn invariants(&self)
         ensures { AreStored self.now }
     {
@@ -96,8 +99,8 @@ impl Nodes {
         }
     }
 
-    /// Appends the list that `shape` describes, and returns its ID. The argument `shape` has either the pairs of the
-    /// list, or the IDs of the two halves of the list.
+    /// Appends the list that `shape` describes, and returns its ID. The argument `shape` contains either the pairs of
+    /// the list, or the IDs of the two halves of the list.
     pub fn push(&mut self, shape: Shape<'_>) -> Result<u32, Memory>
         requires few { length self.old < MOST_LISTS }
         requires suits { Suits self.old shape }

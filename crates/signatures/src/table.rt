@@ -1,6 +1,7 @@
-//! Interns lists that are stored in two parts: as a base, which is a list of pairs that several lists can share and is
-//! interned in the trie, and as extra pairs, which the base lacks. A list is looked up by its tag, which is a hash of
-//! all pairs of the list. So the tag does not depend on which pairs are in the base.
+//! Interns lists that are stored in two parts: a base, which is a list of pairs that several lists can share, and extra
+//! pairs, which are all other pairs of the list. The bases are interned in a separate store, which is called the trie.
+//! A list is looked up by its tag, which is a hash of all pairs of the list. So the tag does not depend on which pairs
+//! are in the base.
 ghost use Rattle.std.specs.Prelude.{◌≡◌, ◌↔◌, ◌++◌, ◌∷◌, ◌<◌, ◌≤◌, [], length, IfOk, OnOk, OnErr, IsTrue, MatchOption};
 ghost use Rattle.signatures.specs.Lists.{list_at, Grow};
 ghost use Rattle.signatures.specs.Hashed.{fingerprint_of, tag_of, IsNewList, IsIdOf};
@@ -19,8 +20,8 @@ use memory::Memory;
 /// The stored lists, and a hash table that finds a list by its tag, which is a hash of 32 bits.
 #[derive(Drop)]
 pub(crate) struct Table {
-    /// For each list, the ID of its base, which is a list of pairs that several lists can share, and the extra pairs,
-    /// which the base lacks.
+    /// For each list, the ID of its base, which is a list of pairs that several lists can share, and its extra pairs,
+    /// which are all other pairs of the list.
     pub extensions: Extensions,
     /// The hash table, in which the ID of each list is stored under the tag (a hash of 32 bits) of the list.
     pub buckets: Buckets,
@@ -29,8 +30,9 @@ pub(crate) struct Table {
 impl Table {
     /// Interns the list that consists of the pairs in `pairs` and of the pairs of a base, which is a list of pairs that
     /// several lists can share. Returns the ID of the interned list. The base is the list with the ID `base` in the
-    /// trie, and must have none of the pairs in `pairs`. If `pairs` has more than 64 pairs (`MOST_WHOLE`), the call
-    /// first adds the whole list to the trie. The whole list is then its own base, and has no extra pairs.
+    /// trie, and must contain none of the pairs in `pairs`. If `pairs` contains more than 64 pairs (`MOST_WHOLE`), the
+    /// call first adds the whole list to the trie. The whole list is then its own base, so that no pairs have to be
+    /// stored besides the base.
     pub fn intern_with(
         &mut self,
         bases: &mut Bases,
@@ -54,8 +56,9 @@ impl Table {
         self.intern(bases, Extension { base, extra: &[] })
     }
 
-    /// Interns a list, and returns its ID. The list is given as a base, which is a list of pairs that several lists can
-    /// share, and as at most 64 extra pairs (`MOST_WHOLE`), which the base lacks.
+    /// Interns a list, and returns its ID. The list is given in two parts: its base, which is a list of pairs that
+    /// several lists can share, and its extra pairs, which are all other pairs of the list. The list may have at most
+    /// 64 extra pairs (`MOST_WHOLE`).
     fn intern(&mut self, bases: &mut Bases, list: Extension<'_>) -> Result<u32, Memory>
         requires extensions { AreExtended bases.old.trie self.old.extensions self.old.buckets.tags }
         requires list { IsExtension bases.old.trie (parts_of list) }
@@ -77,9 +80,8 @@ impl Table {
         Ok(id)
     }
 
-    /// Returns the ID of the stored list that is equal to `list`, or `None` if there is no such list. The search leaves
-    /// out the list with the ID 0, which is the empty list. The argument `tag` is the tag (a hash of 32 bits) of
-    /// `list`.
+    /// Returns the ID of the stored list that is equal to `list`, or `None` if there is no such list. The search skips
+    /// the list with the ID 0, which is the empty list. The argument `tag` is the tag (a hash of 32 bits) of `list`.
     fn find(&self, bases: &mut Bases, list: Extension<'_>, tag: u32) -> Result<Option<u32>, Memory>
         requires extensions { AreExtended bases.old.trie self.now.extensions self.now.buckets.tags }
         requires list { IsExtension bases.old.trie (parts_of list) }
@@ -101,8 +103,8 @@ impl Table {
         Ok(None)
     }
 
-    /// Appends a list to the table, stores its ID in the hash table under its tag (a hash of 32 bits), and returns the
-    /// ID.
+    /// Appends the list `list` to the table, stores its ID in the hash table under the tag `tag` (a hash of 32 bits),
+    /// and returns the ID.
     fn add_list(&mut self, list: Extension<'_>, tag: u32) -> Result<u32, Memory>
         requires few { length list.extra.now ≤ MOST_WHOLE }
         requires size { length self.old.buckets.tags ≡ length self.old.extensions }
@@ -121,9 +123,9 @@ impl Table {
     }
 }
 
-/// Computes the fingerprint (a hash of 64 bits) of the list `list`. The list is stored as a base, which is a list of
-/// pairs that several lists can share, and as extra pairs, which the base lacks. The fingerprint of the list is the sum
-/// of the fingerprints of its base and of its extra pairs, modulo 2^64.
+/// Computes the fingerprint (a hash of 64 bits) of the list `list`. The list is stored in two parts: its base, which is
+/// a list of pairs that several lists can share, and its extra pairs, which are all other pairs of the list. The
+/// fingerprint of the list is the sum of the fingerprints of these two parts, modulo 2^64.
 #[inline(always)]
 fn sum_of(trie: &Trie, list: Extension<'_>) -> u64
     requires { IsExtension trie.now (parts_of list) }
@@ -132,10 +134,12 @@ fn sum_of(trie: &Trie, list: Extension<'_>) -> u64
     trie.sum(list.base).wrapping_add(fingerprint(list.extra))
 }
 
-/// Returns whether the lists `one` and `other` are equal. Each list is given as a base, which is a list of pairs that
-/// several lists can share, and as extra pairs, which the base lacks. If the two lists have the same base, their extra
-/// pairs are compared. If their fingerprints (hashes of 64 bits) differ, the lists differ. If their bases differ and
-/// their fingerprints are equal, both lists are interned in the trie, and their IDs in the trie are compared.
+/// Returns whether the lists `one` and `other` are equal. Each list is given in two parts: its base, which is a list of
+/// pairs that several lists can share, and its extra pairs, which are all other pairs of the list. If the two lists
+/// have the same base, the call compares their extra pairs. If the bases differ, and the fingerprints (hashes of 64
+/// bits) of the two lists also differ, the lists are not equal. If the bases differ, but the fingerprints are equal,
+/// the call interns both lists in the trie. In the trie, equal lists have the same ID, so that the call only has to
+/// compare the IDs.
 fn is_same(bases: &mut Bases, one: Extension<'_>, other: Extension<'_>) -> Result<bool, Memory>
     requires one { IsExtension bases.old.trie (parts_of one) }
     requires other { IsExtension bases.old.trie (parts_of other) }

@@ -1,5 +1,6 @@
-//! Interns bases, which are lists of pairs that other lists can share. This module also owns the union cache, which
-//! remembers the unions of bases. The layer below this module is the module `nodes`, which stores the lists.
+//! Interns bases, which are lists of pairs that other lists can share. This module also owns the union cache, which is
+//! a hash table of unions of bases that were computed before. The layer below this module is the module `nodes`, which
+//! stores the lists.
 ghost use Rattle.std.specs.Prelude.{◌≡◌, ◌↔◌, ℕ, ◌++◌, ◌∷◌, ◌<◌, List, [], length, IfOk, IfSome, OnOk, OnErr, IsTrue};
 ghost use Rattle.std.specs.List.{Contains};
 ghost use Rattle.std.specs.List.Sorted.{IsStrictlySortedBy};
@@ -46,7 +47,7 @@ impl Model for Trie {
 }
 
 impl Trie {
-    /// Makes a trie (a store of lists) that has only the empty list.
+    /// Makes a trie (a store of lists) that contains only the empty list.
     pub fn new(alloc: Global) -> Result<Trie, Memory>
         ensures { IfOk result (λ x. x ≡ [] ∷ []) }
     {
@@ -61,7 +62,7 @@ impl Trie {
     }
 
     /// This call is a lemma: it does nothing at run time. Its contract states properties that the lists of every trie
-    /// have (`AreStored`). It also states that no two lists of a trie are equal.
+    /// (a store of lists) have (`AreStored`). The contract also states that no two lists of a trie are equal.
     pub fn invariants(&self)
         ensures stored { AreStored self.now }
         ensures different { AreDifferent self.now }
@@ -85,8 +86,8 @@ impl Trie {
         self.sums[k as usize]
     }
 
-    /// Computes the fingerprint (a hash of 64 bits) of the list that `shape` describes. The argument `shape` has either
-    /// the pairs of the list, or the IDs of the two halves of the list.
+    /// Computes the fingerprint (a hash of 64 bits) of the list that `shape` describes. The argument `shape` contains
+    /// either the pairs of the list, or the IDs of the two halves of the list.
     fn sum_of(&self, shape: Shape<'_>) -> u64
         requires { Suits self.now shape }
         ensures { result ≡ fingerprint_of (list_of_shape self.now shape.entry) }
@@ -97,8 +98,8 @@ impl Trie {
         }
     }
 
-    /// Interns the list that `shape` describes, and returns its ID. The argument `shape` has either the pairs of the
-    /// list, or the IDs of the two halves of the list.
+    /// Interns the list that `shape` describes, and returns its ID. The argument `shape` contains either the pairs of
+    /// the list, or the IDs of the two halves of the list.
     pub fn intern(&mut self, shape: Shape<'_>) -> Result<u32, Memory>
         requires { Suits self.old shape }
         ensures within { IfOk result (λ k. k < length self.new) }
@@ -113,9 +114,9 @@ impl Trie {
         self.add_list(shape, sum)
     }
 
-    /// Appends the list that `shape` describes, and returns its ID. The argument `shape` has either the pairs of the
-    /// list, or the IDs of the two halves of the list. The argument `sum` is the fingerprint (a hash of 64 bits) of the
-    /// list. The caller must ensure that no stored list is equal to this list.
+    /// Appends the list that `shape` describes, and returns its ID. The argument `shape` contains either the pairs of
+    /// the list, or the IDs of the two halves of the list. The argument `sum` is the fingerprint (a hash of 64 bits) of
+    /// the list. The caller must ensure that no stored list is equal to this list.
     fn add_list(&mut self, shape: Shape<'_>, sum: u64) -> Result<u32, Memory>
         requires suits { Suits self.old shape }
         requires sum { sum ≡ fingerprint_of (list_of_shape self.old shape) }
@@ -135,15 +136,16 @@ impl Trie {
         Ok(id)
     }
 
-    /// Returns the ID of the union of the lists with the IDs `j` and `k`, or `None` if the union is not in the union
-    /// cache.
+    /// Returns the ID of the union of the lists with the IDs `j` and `k` if this union is in the union cache, which is
+    /// a hash table of unions that were computed before. Otherwise, the call returns `None`.
     pub fn cached_union(&self, j: u32, k: u32) -> Option<u32>
         ensures { IfSome result (IsUnion self.now (j, k)) }
     {
         self.union_cache.find(j.min(k), j.max(k))
     }
 
-    /// Stores in the union cache that the list with the ID `i` is the union of the lists with the IDs `j` and `k`.
+    /// Stores in the union cache, which is a hash table of unions that were computed before, that the list with the ID
+    /// `i` is the union of the lists with the IDs `j` and `k`.
     pub fn cache_union(&mut self, j: u32, k: u32, i: u32) -> Result<(), Memory>
         requires { IsUnion self.old (j, k) i }
         ensures { self.new ≡ self.old }

@@ -1,5 +1,5 @@
-//! Finds a list in the trie by its tag, which is a hash of 32 bits (hash-consing). The trie stores lists of pairs that
-//! other lists can share. Equal lists have equal tags.
+//! Finds a list in the trie by its tag, which is a hash of 32 bits. Equal lists have equal tags. The trie interns lists
+//! of pairs that other lists can share: it stores each list only once (hash-consing).
 ghost use Rattle.std.specs.Prelude.{◌≡◌, ◌↔◌, ◌<◌, length, map, IsTrue, MatchOption};
 ghost use Rattle.signatures.specs.Lists.{list_at};
 ghost use Rattle.signatures.specs.Nodes.{list_of_shape, Suits};
@@ -9,7 +9,7 @@ use crate::hashes::are_same;
 use crate::nodes::{Nodes, Shape};
 use buckets::{Buckets, EMPTY};
 
-/// Returns whether the list with the ID `k` is equal to the list that `shape` describes. The argument `shape` has
+/// Returns whether the list with the ID `k` is equal to the list that `shape` describes. The argument `shape` contains
 /// either the pairs of its list, or the IDs of the two halves of its list.
 fn is(nodes: &Nodes, k: u32, shape: Shape<'_>) -> bool
     requires list { k < length nodes.now }
@@ -25,9 +25,9 @@ fn is(nodes: &Nodes, k: u32, shape: Shape<'_>) -> bool
     }
 }
 
-/// Returns the ID of the list that `shape` describes, or `None` if this list is not stored. The argument `shape` has
-/// either the pairs of the list, or the IDs of the two halves of the list. The argument `tag` is the tag (a hash of 32
-/// bits) of the list.
+/// Returns the ID of the list that `shape` describes, or `None` if this list is not stored. The argument `shape`
+/// contains either the pairs of the list, or the IDs of the two halves of the list. The argument `tag` is the tag (a
+/// hash of 32 bits) of the list.
 pub(crate) fn find(nodes: &Nodes, buckets: &Buckets, shape: Shape<'_>, tag: u32) -> Option<u32>
     requires tags { buckets.now.tags ≡ map tag_of nodes.now }
     requires different { AreDifferent nodes.now }

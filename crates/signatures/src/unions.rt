@@ -1,8 +1,8 @@
-//! Makes new bases, which are lists of pairs that other lists can share. The bases are stored in the trie. A base is
-//! made from pairs, from a list and pairs, or from two lists. A long list is stored as two halves, and is divided into
-//! these halves at a number, which is called the split point of the list. To compare a pair with the split point, the
-//! pair is represented by a number. The first half has the pairs that are less than the split point, and the second
-//! half has the other pairs.
+//! Makes new bases, which are lists of pairs that other lists can share. The bases are stored in a separate store,
+//! which is called the trie. A base is made from pairs, from a list and pairs, or from two lists. A long list is stored
+//! as two halves, and is divided into these halves at a number, which is called the split point of the list. To compare
+//! a pair (x, y) with the split point, the pair is represented by the number x * 2^32 + y. The first half contains the
+//! pairs that are less than the split point, and the second half contains the other pairs.
 ghost use Rattle.std.specs.Prelude.{◌≡◌, ℕ, ◌<◌, ◌≤◌, List, length, IfOk};
 ghost use Rattle.signatures.specs.declared.nodes.TheConstants.{MOST_WHOLE};
 ghost use Rattle.std.specs.List.Sorted.{IsStrictlySortedBy};
@@ -31,8 +31,9 @@ pub(crate) struct Bases {
 
 impl Bases {
     /// Computes the union of the lists with the IDs `j` and `k`, and returns the ID of the union. If the two lists are
-    /// different and each of them is stored as two halves, the call first searches the union cache for the union. If
-    /// the union is not there, the call computes it and stores it in the cache.
+    /// not equal and each of them is stored as two halves, the call first looks up their union in the union cache,
+    /// which is a hash table of unions that were computed before. If the cache does not contain their union, the call
+    /// computes the union and stores it in the cache.
     pub fn both(&mut self, j: u32, k: u32) -> Result<u32, Memory>
         requires first { j < length self.old.trie }
         requires second { k < length self.old.trie }
@@ -104,12 +105,13 @@ pub(crate) fn list_of(trie: &mut Trie, pairs: &[(u32, u32)]) -> Result<u32, Memo
 }
 
 /// Divides the list with the ID `k` into two parts at the number `cut`, and returns the IDs of the two parts. To
-/// compare a pair with `cut`, the pair is represented by a number. The first part has the pairs that are less than
-/// `cut`, and the second part has the pairs that are at least `cut`. The argument `halves` has the IDs of the two
-/// halves of the list, and the split point of the list, which is the number at which the list is divided into these
-/// halves. If `cut` is the split point, the two parts are the two halves. Otherwise, one part is the whole list, and
-/// the other part is the empty list. This is correct only if `cut` is a multiple of some power of two, 2^bit, and if
-/// all pairs of the list have the same bits as `cut` above the position `bit` (`IsAlike`).
+/// compare a pair (x, y) with `cut`, the pair is represented by the number x * 2^32 + y. The first part contains the
+/// pairs that are less than `cut`, and the second part contains the pairs that are at least `cut`. The argument
+/// `halves` contains the IDs of the two halves of the list, and the split point of the list, which is the number at
+/// which the list is divided into these halves. If `cut` is the split point, the two parts are the two halves.
+/// Otherwise, one part is the whole list, and the other part is the empty list. This result is correct only if `cut` is
+/// a multiple of some power of two, 2^bit, and if all pairs of the list have the same bits as `cut` above the position
+/// `bit` (`IsAlike`).
 fn split(k: u32, halves: Halves, cut: u64) -> (u32, u32)
     ensures { (lists : List (List (ℕ × ℕ))) → AreStored lists → IsHalved lists k halves
         → (bit : ℕ) → IsAlike bit (list_at lists k) cut → IsSplit lists k cut result.0 result.1 }
@@ -123,10 +125,9 @@ fn split(k: u32, halves: Halves, cut: u64) -> (u32, u32)
     (halves.below, halves.above)
 }
 
-/// Two lists, each of which is divided into two parts at the number `cut`. This number is the split point of the union
-/// of the two lists, which is the number at which the union is divided into two halves. For each of the two lists, the
-/// field `below` has the part with the pairs that are less than `cut`, and the field `above` has the part with the
-/// other pairs.
+/// Two lists, each of which is divided into two parts at the number `cut`. The union of the two lists is divided into
+/// two halves at the same number. For each of the two lists, the field `below` contains the part with the pairs whose
+/// numbers (`key`) are less than `cut`, and the field `above` contains the part with the other pairs.
 #[derive(Clone, Copy)]
 struct Pieces<T> {
     cut: u64,
@@ -135,9 +136,10 @@ struct Pieces<T> {
 }
 
 /// Divides two lists, which are the list with the ID `k` and the list `pairs`, into two parts each. Both lists are
-/// divided at the split point of their union, which is the number at which the union is divided into two halves. The
-/// first part of each list has the pairs that are less than this number, and the second part has the other pairs. The
-/// argument `halves` has the IDs of the two halves of the list with the ID `k`, and the split point of this list.
+/// divided at the number at which their union is divided into two halves. The first part of each list contains the
+/// pairs whose numbers (`key`) are less than this number, and the second part contains the other pairs. The argument
+/// `halves` contains the IDs of the two halves of the list with the ID `k`, and the number at which this list is
+/// divided into these halves.
 fn pieces_with_pairs(k: u32, halves: Halves, pairs: &[(u32, u32)]) -> Pieces<&[(u32, u32)]>
     requires some { 0 < length pairs.now }
     requires cut { 0 < halves.cut }
@@ -159,8 +161,8 @@ fn pieces_with_pairs(k: u32, halves: Halves, pairs: &[(u32, u32)]) -> Pieces<&[(
     }
 }
 
-/// Computes the union of two lists, which are the list with the ID `k` and the list `pairs`. Returns the ID of the
-/// union. The vector `merged` is working memory for merges.
+/// Computes the union of the list with the ID `k` and the list `pairs`, and returns the ID of the union. The vector
+/// `merged` is working memory for merges.
 pub(crate) fn with(
     trie: &mut Trie,
     merged: &mut Vec<(u32, u32)>,
@@ -197,11 +199,11 @@ pub(crate) fn with(
     }
 }
 
-/// Divides the lists with the IDs `j` and `k` into two parts each. Both lists are divided at the split point of their
-/// union, which is the number at which the union is divided into two halves. The first part of each list has the pairs
-/// that are less than this number, and the second part has the other pairs. The argument `first` has the IDs of the two
-/// halves of the list with the ID `j`, and the split point of this list. The argument `second` has the same data for
-/// the list with the ID `k`.
+/// Divides the lists with the IDs `j` and `k` into two parts each. Both lists are divided at the number at which their
+/// union is divided into two halves. The first part of each list contains the pairs whose numbers (`key`) are less than
+/// this number, and the second part contains the other pairs. The argument `first` contains the IDs of the two halves
+/// of the list with the ID `j`, and the number at which this list is divided into these halves. The argument `second`
+/// contains the same data for the list with the ID `k`.
 fn pieces_of_both(j: u32, first: Halves, k: u32, second: Halves) -> Pieces<u32>
     requires first { 0 < first.cut }
     requires second { 0 < second.cut }

@@ -14,7 +14,7 @@ pub struct Example {
     pub branching: &'static [u8],
 }
 
-/// A system with one transition. It is the quotient of the example `two-equal-targets`.
+/// A system with one transition. This system is the quotient of the example `two-equal-targets`.
 pub const STEP: &[u8] = b"des (0, 1, 2)\n(0, a, 1)\n";
 
 /// The input of the example `LONE_STATE`.
@@ -129,7 +129,7 @@ pub struct Pair {
 }
 
 /// In the first system, the choice between the labels b and c is made after the transition with the label a. In the
-/// second system, this choice is made before, because there are two transitions with the label a.
+/// second system, this choice is made earlier, because two transitions with the label a lead to different states.
 pub const MOMENT_OF_CHOICE: Pair = Pair {
     name: "moment-of-choice",
     first: b"des (0,3,4)\n(0,a,1)\n(1,b,2)\n(1,c,3)\n",

@@ -1,5 +1,6 @@
-//! Code that the tests of several crates share: worked examples with names, a sink (the object to which the output is
-//! written) that counts the calls of its method `finish`, and a check that reports the name of a failing example.
+//! Code that the tests of several crates share. It consists of worked examples with names, of a sink (the object to
+//! which the output is written) that counts the calls of its method `finish`, and of a check that reports the name of a
+//! failing example.
 #![tactic(auto)]
 
 mod counted;
@@ -13,7 +14,7 @@ pub use examples::{
 };
 use std::test::Fail;
 
-/// Fails with the name of the example if `is_as_wanted` is false.
+/// Fails with the name `name` of the example if `is_as_wanted` is false.
 pub fn check(name: &str, is_as_wanted: bool) -> Result<(), Fail> {
     if is_as_wanted {
         Ok(())

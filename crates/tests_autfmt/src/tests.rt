@@ -1,5 +1,5 @@
-//! The tests of this crate, with one file for each subject. The file `reading` has the functions that run the examples
-//! of the other files. The file `long` has functions that make long inputs.
+//! The tests of this crate, with one file for each subject. The file `reading` contains functions that run examples of
+//! the other files. The file `long` contains functions that make long inputs.
 mod headers;
 mod hiding;
 mod long;

@@ -57,9 +57,9 @@ fn passed_by(counts: &mut [u32], list: &[(u32, u32)]) -> u64
     u64::from(passed)
 }
 
-/// Adds the lists `{(first, x), (second, x)}` for all x to their buckets. `counts` has the number of lists in each
-/// bucket. A lookup of a list passes the lists that were added to its bucket before. Returns the total number of lists
-/// that the lookups pass, if each added list is looked up once.
+/// Adds the lists `{(first, x), (second, x)}` for all x to their buckets. The slice `counts` contains the number of
+/// lists in each bucket. A lookup of a list passes the lists that were added to its bucket before. Returns the total
+/// number of lists that the lookups pass, if each added list is looked up once.
 fn passed(counts: &mut [u32], first: u32, second: u32) -> u64
     requires some { 0 < length counts.old }
     requires few { length counts.old < 2 ^ 32 }
@@ -74,8 +74,8 @@ fn passed(counts: &mut [u32], first: u32, second: u32) -> u64
 }
 
 /// A lookup of a list passes the lists that were added to the same bucket before. The check fails if, for the label
-/// `second` and some smaller label, a lookup passes more than one list on average. With random buckets, the average
-/// would be half a list.
+/// `second` and some smaller label, a lookup passes more than one list on average. If the lists were distributed over
+/// the buckets at random, a lookup would pass half a list on average.
 fn check_label(counts: &mut [u32], second: u32) -> Result<(), Fail>
     requires some { 0 < length counts.old }
     requires few { length counts.old < 2 ^ 32 }

@@ -91,7 +91,7 @@ fn ordered(alloc: Global, pairs: &[(u32, u32)]) -> Result<Vec<(u32, u32)>, Memor
     Ok(list)
 }
 
-/// Returns the ID of the list that has exactly the pairs in `pairs`.
+/// Returns the ID of the list that contains exactly the pairs in `pairs`.
 fn number_of(alloc: Global, signatures: &mut Interner, pairs: &[(u32, u32)]) -> Result<u32, Fail> {
     let list = ordered(alloc, pairs)?;
     Ok(signatures.push(&list)?)
@@ -135,7 +135,7 @@ fn check_list(
 }
 
 /// Fails if the two lists of the example have the same ID although they are different, or different IDs although they
-/// are equal. Also fails if the union of the two lists is wrong.
+/// are equal. The function also fails if the union of the two lists is wrong.
 fn check_row(alloc: Global, signatures: &mut Interner, row: &Row) -> Result<(), Fail> {
     let (name, first, second, same, both) = *row;
     let j = number_of(alloc, signatures, first)?;
@@ -180,7 +180,7 @@ fn equal_lists_have_one_number(rt: HostRuntime) -> Result<(), Fail> {
 }
 
 /// Adds 200 pairs to a list, one after the other. The list becomes so long that it is stored as a tree of several
-/// levels. Fails if a pair is missing in one of the lists.
+/// levels. Fails if a pair is missing in one of the resulting lists.
 fn check_growth(alloc: Global, signatures: &mut Interner) -> Result<(), Fail> {
     let mut whole = Vec::new(alloc);
     let mut last = EMPTY;
@@ -201,8 +201,9 @@ fn a_list_grows_by_a_pair(rt: HostRuntime) -> Result<(), Fail> {
     check_growth(rt.alloc(), &mut signatures)
 }
 
-/// Makes lists, removes all lists from the table, and makes the same lists again. Fails if lists are then missing or
-/// have other IDs than before.
+/// Makes lists, removes all of them from the table, so that only the empty list remains, and makes the same lists
+/// again. Fails if other lists remain, if a pair is missing in one of the new lists, or if the list of the single pair
+/// (0, 0) does not have the ID 1.
 fn check_clear(alloc: Global, signatures: &mut Interner) -> Result<(), Fail> {
     check_growth(alloc, signatures)?;
     signatures.clear();

@@ -21,13 +21,13 @@ pub mod Told
 pub mod Refusing
 
 -- `and_then` returns true if the first argument is true and the second argument, which is a function, returns true. The
--- function is computed only if the first argument is true.
+-- function is called only if the first argument is true.
 abbrev pub and_then : Bool → (Unit {0} → Bool) → Bool
 and_then true f = f tt
 and_then false f = false
 
 -- `or_else` returns true if the first argument is true or the second argument, which is a function, returns true. The
--- function is computed only if the first argument is false.
+-- function is called only if the first argument is false.
 abbrev pub or_else : Bool → (Unit {0} → Bool) → Bool
 or_else true f = true
 or_else false f = f tt
@@ -55,7 +55,7 @@ or_else_right false f h = h
 pub not_passes : (x : Bool) → not x ≡ true → x ≢ true
 not_passes x h e = both_ways x (not-true x h) e
 
--- `every` returns true if p returns true for each element of the list.
+-- `every` returns true if the function p returns true for each element of the list.
 abbrev pub every : {X : Type 0} → List X → (X → Bool) → Bool
 every [] p = true
 every (x ∷ xs) p = and_then (p x) (λ _. every xs p)
@@ -66,7 +66,7 @@ every_passes (y ∷ xs) p h x c =
     let parts = and_then_parts (p y) (λ _. every xs p) h in
     elim (contains_cases y xs x c) [ inl e ↦ subst (λ z. p z ≡ true) e parts.0 | inr d ↦ every_passes xs p parts.1 x d ]
 
--- `some` returns true if p returns true for at least one element of the list.
+-- `some` returns true if the function p returns true for at least one element of the list.
 abbrev pub some : {X : Type 0} → List X → (X → Bool) → Bool
 some [] p = false
 some (x ∷ xs) p = or_else (p x) (λ _. some xs p)
@@ -97,8 +97,8 @@ has_contains xs x h =
 pub contains_has : (xs : List ℕ) (x : ℕ) → Contains xs x → has xs x ≡ true
 contains_has xs x c = some_from xs (λ y. eqb y x) x c (eq-eqb x x refl)
 
--- `each_step` returns true if p returns true for the label and the target of each transition in the list es that has
--- the source s.
+-- `each_step` returns true if the function p returns true for the label and the target of each transition in the list
+-- es that has the source s.
 abbrev pub each_step : List Transition → ℕ → (List ℕ → ℕ → Bool) → Bool
 each_step es s p = every es (λ e. or_else (not (eqb e.source s)) (λ _. p e.label e.target))
 
@@ -113,8 +113,8 @@ each_step_passes es s p h x t step =
       | inr q ↦ q
     ]
 
--- `some_step` returns true if p returns true for the label and the target of some transition in the list es that has
--- the source s.
+-- `some_step` returns true if the function p returns true for the label and the target of some transition in the list
+-- es that has the source s.
 abbrev pub some_step : List Transition → ℕ → (List ℕ → ℕ → Bool) → Bool
 some_step es s p = some es (λ e. and_then (eqb e.source s) (λ _. p e.label e.target))
 
@@ -144,7 +144,7 @@ every_from (y ∷ xs) p h =
     and_then_from (p y) (λ _. every xs p) (h y (contains_here y xs))
     (every_from xs p (λ x c. h x (contains_there y xs x c)))
 
--- `each_below` returns true if p returns true for every number less than n.
+-- `each_below` returns true if the function p returns true for every number less than n.
 abbrev pub each_below : ℕ → (ℕ → Bool) → Bool
 each_below zero p = true
 each_below (suc n) p = and_then (p n) (λ _. each_below n p)

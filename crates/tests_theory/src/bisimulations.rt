@@ -56,7 +56,8 @@ pub fn a_silent_cycle()
 {}
 
 /// `lost-option`: in the first system, `b` is possible only after the internal transition. In the second system, `b` is
-/// possible before it too. The two systems are not equivalent.
+/// possible before the internal transition too. The two systems are not equivalent, although the targets of the
+/// internal transitions are branching bisimilar.
 pub fn a_lost_option()
     ensures apart { AreApart option_behind option_before }
     ensures behind { Bisimilar branching option_behind 1 option_before 1 }
@@ -82,8 +83,9 @@ pub fn an_unreachable_twin()
         (((a, 0) ∷ []) ∷ [] ∷ ((b, 0) ∷ []) ∷ [] ∷ []) (0 ∷ 1 ∷ 2 ∷ 1 ∷ []) }
 {}
 
-/// `hidden-both-sides`: hiding the label `a` turns a transition into an internal transition. After hiding, the two
-/// systems are branching bisimilar, but not strongly bisimilar.
+/// `hidden-both-sides`: the label `a` is hidden in two systems, which turns one transition of the first system into an
+/// internal transition. After this, the two systems are branching bisimilar, but not strongly bisimilar. Before this,
+/// the two systems are not equivalent.
 pub fn hidden_on_both_sides()
     ensures hidden { Equivalent branching (Hide (a ∷ []) a_then_b) (Hide (a ∷ []) only_b) }
     ensures strongly { ¬ Equivalent strong (Hide (a ∷ []) a_then_b) (Hide (a ∷ []) only_b) }
@@ -109,8 +111,8 @@ pub fn reordered_lines()
     ensures strongly { Equivalent strong a_then_b a_then_b_reordered }
 {}
 
-/// `first-differs`: two systems that differ only in the names of their states are equivalent, even if the name of the
-/// first state differs.
+/// `first-differs`: two systems that differ only in the numbering of their states are equivalent, even if their first
+/// states have different numbers.
 pub fn another_first_state()
     ensures { Equivalent strong only_a_from_1 only_a }
 {}

@@ -2,7 +2,7 @@
 //! known.
 //!
 //! The example systems are defined in `specs/Examples`. The functions of this crate have empty bodies. The contract of
-//! each function states what the definitions say about an example, and its proof computes the answer.
+//! each function states what the definitions say about an example. The proof of the contract computes the answer.
 #![tactic(auto)]
 
 mod bisimulations;

@@ -1,6 +1,6 @@
-//! A leader is the state that represents its class, and a class number is the quotient state for a class. This file
-//! proves which leaders, class numbers and quotients the example systems have. The comments give the name of each
-//! example.
+//! The leader of a class of bisimilar states is the state that represents this class. The class number of a class is
+//! the state of the quotient that represents the class (states are numbers). This file proves which leaders, class
+//! numbers and quotients the example systems have. The comments give the name of each example.
 
 ghost use Rattle.std.specs.Prelude.{◌≡◌, ◌↔◌, List, [], ◌∷◌};
 ghost use Rattle.std.specs.List.{Contains};
@@ -19,9 +19,9 @@ ghost use Rattle.tests_theory.specs.Examples.{option_behind};
 ghost use Rattle.tests_theory.specs.Examples.{silent_middle, silent_detour, silent_detour_strong_quotient};
 ghost use Rattle.tests_theory.specs.Examples.{hidden_middle_strong_quotient};
 
-/// `unreachable-twin`: the state 1 is unreachable, and it is bisimilar to the reachable state 3. The leader of their
-/// class, which is the state that represents the class, is the state 3. So the state 1 does not add a state to the
-/// quotient.
+/// `unreachable-twin`: the state 1 is unreachable, and it is bisimilar to the reachable state 3. The leader of a class
+/// is the state that represents the class. The leader of the class of these two states is the state 3, so the state 1
+/// does not add a state to the quotient.
 pub fn quotient_of_unreachable_twin()
     ensures quotient { Quotient Strong unreachable_twin a_then_b }
     ensures number_of_0 { Number Strong unreachable_twin 0 0 }
@@ -31,21 +31,22 @@ pub fn quotient_of_unreachable_twin()
     ensures no_leader { ¬ IsLeader Strong unreachable_twin 1 }
 {}
 
-/// `first-leads-numbering`: the first state 2 and the state 0 are bisimilar. The first state is the leader of these two
-/// states, which means that it represents their class, although the state 0 is smaller. The class of the first state
-/// has the number 0, and the classes of the states 1 and 3 have greater numbers.
+/// `first-leads-numbering`: the first state 2 and the state 0 are bisimilar. The leader of a class is the state that
+/// represents the class. The leader of the class of these two states is the first state, although the state 0 is
+/// smaller. The class of the first state has the number 0, and the classes of the states 1 and 3 have greater numbers.
 pub fn quotient_of_first_leads()
     ensures quotient { QuotientIs Strong first_leads first_leads_quotient (0 ∷ 1 ∷ 0 ∷ 2 ∷ []) }
     ensures leaders { LeadersAre Strong first_leads (2 ∷ 1 ∷ 2 ∷ 3 ∷ []) }
     ensures no_leader { ¬ IsLeader Strong first_leads 0 }
 {}
 
-/// `first-in-cycle`: one quotient state represents the two states. `first-is-two`: the first state has the greatest
-/// number of all states, and the state 0 of the quotient represents it. `two-equal-targets`: two transitions with the
-/// label `a` lead to bisimilar states, and one transition of the quotient represents these two transitions.
-/// `two-spellings`: an input has the same transition on three lines, with its label written as `a` or as `"a"`. So the
-/// system contains this transition three times, and the quotient contains it once. `unreachable-pair`: unreachable
-/// states and their transitions are not in the quotient. `chain-of-three`: the system is its own quotient.
+/// `first-in-cycle`: one quotient state represents both states of the system. `first-is-two`: the first state of the
+/// system has the greatest number of all states. The state 0 of the quotient represents this state.
+/// `two-equal-targets`: two transitions with the label `a` lead to bisimilar states, and one transition of the quotient
+/// represents these two transitions. `two-spellings`: an input contains the same transition on three lines, with its
+/// label written as `a` or as `"a"`. So the system contains this transition three times, and the quotient contains it
+/// once. `unreachable-pair`: unreachable states and their transitions are not in the quotient. `chain-of-three`: the
+/// system is its own quotient.
 pub fn strong_quotients()
     ensures { AreQuotients Strong
         ((first_in_cycle, loop_of_a) ∷ (first_is_two, a_then_b) ∷ (two_equal_targets, only_a)
@@ -80,8 +81,8 @@ pub fn quotient_of_silent_loop()
 {}
 
 /// `silent-detour`: two paths of this system differ only in internal transitions. The quotient modulo strong
-/// bisimilarity contains both paths. The quotient modulo branching bisimilarity contains one path without internal
-/// transitions. In both quotients, one state represents the states 3 and 4.
+/// bisimilarity contains both paths. The quotient modulo branching bisimilarity contains only one path, which has no
+/// internal transitions. In both quotients, one state represents the states 3 and 4.
 pub fn quotient_of_silent_detour()
     ensures branching { QuotientIs Branching silent_detour a_then_b
         (0 ∷ 0 ∷ 1 ∷ 1 ∷ 1 ∷ 2 ∷ []) }
@@ -99,9 +100,9 @@ pub fn hidden_step()
 {}
 
 /// Four examples, and for each example a system that is not its quotient. The first of these four systems has one state
-/// too many. The second system has an internal transition within a class. The third system contains a transition twice.
-/// The fourth system numbers the classes by the size of their leaders, which are the states that represent the classes,
-/// so that the first state does not get the number 0.
+/// too many. The second system has an internal transition within a class. The third system contains a transition more
+/// than once. In the fourth system, the classes are numbered in the ascending order of their leaders (the states that
+/// represent the classes), so that the class of the first state does not get the number 0.
 pub fn not_the_quotient()
     ensures a_state_too_many { ¬ Quotient Branching silent_cycle silent_cycle }
     ensures a_silent_step { ¬ Quotient Branching silent_loop silent_loop }

@@ -25,7 +25,7 @@ pub fn rounds_of_chain_of_three()
 
 /// `silent-beside-visible`: refinement takes two rounds. After the internal transition, `a` is no longer possible. In
 /// the second round, the internal transition leads to another block, and so the signature of the source of this
-/// transition contains a pair for it.
+/// transition contains a pair for this transition.
 pub fn rounds_of_silent_beside()
     ensures rounds { RefinesBy Branching silent_beside (0 ∷ 0 ∷ 0 ∷ 0 ∷ [])
         ((((a, 0) ∷ (b, 0) ∷ []) ∷ ((b, 0) ∷ []) ∷ [] ∷ [] ∷ [], 0 ∷ 1 ∷ 2 ∷ 2 ∷ [])

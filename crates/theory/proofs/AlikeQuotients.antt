@@ -1,6 +1,7 @@
--- A leader is the state that represents a class of bisimilar states, and a class number is the quotient state for a
--- class. If two systems have the same steps (`SameSteps`), they have the same leaders, class numbers and quotients. If
--- the transitions of a quotient of A are reordered, the result is also a quotient of A.
+-- The leader of a class of bisimilar states is the state that represents this class. The class number of a class is the
+-- quotient state that represents this class. If two systems have the same steps (`SameSteps`), they have the same
+-- leaders, class numbers and quotients. If the transitions of a quotient of A are reordered, the result is also a
+-- quotient of A.
 use Rattle.std.proofs.Common.{◌≡◌, ◌≢◌, ◌↔◌, ℕ, ◌<◌, sym, ◌∙◌, subst, inl, inr}
 use Rattle.std.specs.List.Sorted.{IsPermutation}
 use Rattle.std.proofs.lemmas.List.Sorted.{IsPermutation-sym, Contains-permutation}
@@ -40,8 +41,8 @@ is_leader_alike : (rel : Relation) (A B : System) → SameSteps A B → (l : ℕ
 is_leader_alike rel A B same l (s, path, leader) =
     (s, reachable_alike A B same s path, leader_alike rel A B same s l leader)
 
--- `Earlier` holds if the state m is a leader (the state that represents its class), is smaller than l, and is not the
--- first state.
+-- States are numbers. `Earlier` holds if the state m is a leader (the state that represents its class), is less than
+-- the number l, and is not the first state.
 abbrev Earlier : Relation → System → ℕ → ℕ → Type 0
 Earlier rel A l m = IsLeader rel A m × (m < l) × (m ≢ A.first)
 

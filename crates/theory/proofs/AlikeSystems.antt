@@ -102,9 +102,9 @@ signature_alike Branching A B same blocks s a b (u, t, path, step, at, shown) = 
   shown,
 )
 
--- `SameSignatures` holds under two conditions. First, the systems A and B have the same number of states. Second, for
--- every partition into blocks and every state s, the signature of s in A for the relation `one` equals the signature of
--- s in B for the relation `two`. Each of these relations is strong or branching bisimilarity.
+-- `SameSignatures` holds if both of the following conditions hold. First, the systems A and B have the same number of
+-- states. Second, for every partition into blocks and every state s, the signature of s in A for the relation `one`
+-- equals the signature of s in B for the relation `two`. Each of these relations is strong or branching bisimilarity.
 pub record SameSignatures (one two : Relation) (A B : System) : Type 0 where
   pub states : A.states ≡ B.states
   pub shown : (blocks : ℕ → ℕ) (s : ℕ) (a : List ℕ) (b : ℕ) →
@@ -130,8 +130,8 @@ module _ (one two : Relation) (A B : System) (same : SameSignatures one two A B)
     λ x. (same.shown blocks s a b).0 ((h a b).1 ((same.shown blocks t a b).1 x)),
   )
 
-  -- Suppose that A and B have the same number of states. If P holds for any two states of A, then P holds for any two
-  -- states of B.
+  -- Suppose that A and B have the same number of states. If the relation P holds for any two states of A, then P holds
+  -- for any two states of B.
   each_two_alike : (P : ℕ → ℕ → Type 0) → EachTwo A P → EachTwo B P
   each_two_alike P h s t ls lt =
       h s t (subst (λ n. s < n) (sym same.states) ls) (subst (λ n. t < n) (sym same.states) lt)

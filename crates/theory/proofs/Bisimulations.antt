@@ -9,8 +9,8 @@ use Rattle.theory.proofs.Paths.{leads_here, step_below}
 use Rattle.theory.proofs.Deciding.{same_number, both, decided_like, some_in}
 use Rattle.theory.proofs.Listing.{pairs_listed}
 
--- Suppose that S relates any two states that R relates. If t matches each step of s with respect to R, then t matches
--- each step of s with respect to S.
+-- Suppose that the relation S relates any two states that the relation R relates. If the state t matches each step of
+-- the state s with respect to R, then t matches each step of s with respect to S.
 pub answers_weaker :
     (rel : Relation) (A B : System) (R S : ℕ → ℕ → Type 0) → ((s t : ℕ) → R s t → S s t) →
     (s t : ℕ) → Matches rel A B R s t → Matches rel A B S s t
@@ -23,7 +23,8 @@ answers_weaker Branching A B R S wider s t answers = λ a s' step.
       | inr goes ↦ inr (goes.0, goes.1, goes.2, goes.3, wider s goes.0 goes.4, wider s' goes.1 goes.5)
     ]
 
--- Suppose that R relates each state of A to itself. Then each state of A matches its own steps with respect to R.
+-- Suppose that the relation R relates each state of A to itself. Then each state of A matches its own steps with
+-- respect to R.
 pub answers_itself :
     (rel : Relation) (A : System) (R : ℕ → ℕ → Type 0) → IsSystem A → ((s : ℕ) → s < A.states → R s s) →
     (s : ℕ) → s < A.states → Matches rel A A R s s
@@ -31,7 +32,7 @@ answers_itself Strong A R system itself s below = λ a s' step. (s', step, itsel
 answers_itself Branching A R system itself s below = λ a s' step.
     inr (s, s', leads_here (Internal A) s, step, itself s below, itself s' (step_below A system s a s' step).1)
 
--- `OrSame` holds if R relates s and t, or if s and t are the same state of A.
+-- `OrSame` holds if the relation R relates the state s to the state t, or if s and t are the same state of A.
 abbrev pub OrSame : System → (ℕ → ℕ → Type 0) → ℕ → ℕ → Type 0
 OrSame A R s t = R s t ⊎ ((s < A.states) × (s ≡ t))
 
@@ -92,8 +93,8 @@ pairs_decided pairs s t =
     (some_in (λ x. (x.0 ≡ s) × (x.1 ≡ t)) (λ x. both (same_number x.0 s) (same_number x.1 t)) pairs)
 
 -- Two states are bisimilar if some list of pairs is a bisimulation that relates them. Suppose that R is a bisimulation,
--- that R is decidable, and that R relates s and t. Then s and t are bisimilar, because all pairs for which R holds can
--- be listed.
+-- that R is decidable, and that R relates the state s to the state t. Then s and t are bisimilar, because all pairs for
+-- which R holds can be listed.
 pub bisimilar_by : (rel : Relation) (A B : System) (R : ℕ → ℕ → Type 0) → ((s t : ℕ) → Dec (R s t))
     → IsBisimulation rel A B R
     → (s t : ℕ) → R s t → Bisimilar rel A s B t

@@ -13,16 +13,16 @@ use Rattle.theory.proofs.Paths.{leads_here, leads_step, leads_append, leads_on, 
 use Rattle.theory.proofs.Paths.{step_below, silent_below}
 
 module _ (A : System) (blocks : ℕ → ℕ) where
-  -- If a path of inert steps leads from s to t, then s and t share a block.
+  -- If a path of inert steps leads from the state s to the state t, then s and t share a block.
   pub inert_same : (s t : ℕ) → Leads (Inert A blocks) s t → blocks t ≡ blocks s
   inert_same s t path = leads_keeps (Inert A blocks) (λ x. blocks x ≡ blocks s) (λ x y r h. r.1 ∙ h) s t path refl
 
-  -- If a path of inert steps leads from s to t, then a silent path leads from s to t.
+  -- If a path of inert steps leads from the state s to the state t, then a silent path leads from s to t.
   pub inert_silent : (s t : ℕ) → Leads (Inert A blocks) s t → Silent A s t
   inert_silent = leads_map (Inert A blocks) (Internal A) (λ x y r. r.0)
 
-  -- Suppose that the blocks are closed under silent paths (`Kept`). If a silent path leads from s to a state t in the
-  -- same block, then a path of inert steps leads from s to t.
+  -- Suppose that the blocks are closed under silent paths (`Kept`). If a silent path leads from the state s to a state
+  -- t in the same block, then a path of inert steps leads from s to t.
   pub silent_inert :
       IsSystem A → Kept Branching A blocks →
       (s t : ℕ) → s < A.states → Silent A s t → blocks s ≡ blocks t → Leads (Inert A blocks) s t
@@ -37,7 +37,8 @@ module _ (A : System) (blocks : ℕ → ℕ) where
           let rest = go u us (step_below A system s internal u path.0).1 path.1 (inside ∙ same) in
           leads_append (Inert A blocks) s u t (leads_step (Inert A blocks) s u (path.0, inside)) rest
 
-  -- If a path of inert steps leads from s to t, then the signature of s contains every pair in the signature of t.
+  -- If a path of inert steps leads from the state s to the state t, then the signature of s contains every pair in the
+  -- signature of t.
   pub signature_before :
       (s t : ℕ) → Leads (Inert A blocks) s t →
       (a : List ℕ) (b : ℕ) → Signature Branching A blocks t a b → Signature Branching A blocks s a b
@@ -80,15 +81,15 @@ branching_split A old new system kept split s u t below su ut same =
 -- that are together have equal signatures.
 module _ (A B : System) (blocks : ℕ → ℕ) (R : ℕ → ℕ → Type 0) (system : IsSystem A) (kept : Kept Branching A blocks)
     (bisimulation : IsBisimulation Branching A B R) (shared : (s t x : ℕ) → R s x → R t x → blocks s ≡ blocks t) where
-  -- `Together` holds if R relates the states s and t of A to the same state of B.
+  -- `Together` holds if the relation R relates the states s and t of A to the same state of B.
   abbrev Together : ℕ → ℕ → Type 0
   Together s t = (x : ℕ) × R s x × R t x
 
   together_share : (s t : ℕ) → Together s t → blocks s ≡ blocks t
   together_share s t both = shared s t both.0 both.1 both.2
 
-  -- If a silent path of B leads from x to y, and R relates s to x, then a silent path of A leads from s to some state
-  -- that R relates to y.
+  -- If a silent path of B leads from the state x to the state y, and the bisimulation R relates the state s of A to x,
+  -- then a silent path of A leads from s to some state that R relates to y.
   silent_followed : (x y s : ℕ) → Silent B x y → R s x → (t : ℕ) × Silent A s t × R t y
   silent_followed = leads_answered (Internal B) (Internal A) (λ x s. R s x) (λ x y s step related.
       elim (bisimulation.back s x related internal y step) [
@@ -96,8 +97,9 @@ module _ (A B : System) (blocks : ℕ → ℕ) (R : ℕ → ℕ → Type 0) (sys
         | inr goes ↦ (goes.1, leads_on (Internal A) s goes.0 goes.1 goes.2 goes.3, goes.5)
       ])
 
-  -- Suppose that a silent path of B leads from x to y. Suppose also that R relates s to x, and that R relates some
-  -- state r of A to both x and y. Then a path of inert steps leads from s to some state that R relates to y.
+  -- Suppose that a silent path of B leads from the state x to the state y. Suppose also that the bisimulation R relates
+  -- the state s of A to x, and that R relates some state r of A to both x and y. Then a path of inert steps leads from
+  -- s to some state that R relates to y.
   inert_followed :
       (x y r s : ℕ) → Silent B x y → R r x → R r y → R s x → (t : ℕ) × Leads (Inert A blocks) s t × R t y
   inert_followed x y r s path rx ry sx =
@@ -105,11 +107,11 @@ module _ (A B : System) (blocks : ℕ → ℕ) (R : ℕ → ℕ → Type 0) (sys
       let same = shared s r x sx rx ∙ shared r found.0 y ry found.2 in
       (found.0, silent_inert A blocks system kept s found.0 (bisimulation.states s x sx).0 found.1 same, found.2)
 
-  -- Two states of A are together (`Together`) if R relates them to the same state of B. `Answered` holds if the state t
-  -- matches a step of s with the label a to s'. There are two ways to match the step. In the first case, a is the
-  -- internal label, and a path of inert steps leads from t to some state t' such that s' and t' are together. In the
-  -- second case, a path of inert steps leads from t to some state t1 such that s and t1 are together. A step with the
-  -- label a then leads from t1 to some state t' such that s' and t' are together.
+  -- Two states of A are together (`Together`) if the relation R relates them to the same state of B. `Answered` holds
+  -- if the state t matches a step with the label a from the state s to the state s'. The step is matched if a is the
+  -- internal label, and a path of inert steps leads from t to some state t' such that s' and t' are together. The step
+  -- is also matched if a path of inert steps leads from t to some state t1 such that s and t1 are together. A step with
+  -- the label a must then lead from t1 to some state t' such that s' and t' are together.
   abbrev Answered : ℕ → ℕ → List ℕ → ℕ → Type 0
   Answered s t a s' =
       ((a ≡ internal) × (t' : ℕ) × Leads (Inert A blocks) t t' × Together s' t')
@@ -138,8 +140,9 @@ module _ (A B : System) (blocks : ℕ → ℕ) (R : ℕ → ℕ → Type 0) (sys
             ]
       ]
 
-  -- Suppose that R relates s and t to the same state of B, and that a path of inert steps leads from s to u. Then a
-  -- path of inert steps leads from t to some state t'. The states u and t' are related by R to the same state of B.
+  -- Suppose that the bisimulation R relates the states s and t of A to the same state of B, and that a path of inert
+  -- steps leads from s to the state u. Then a path of inert steps leads from t to some state t'. The states u and t'
+  -- are related by R to the same state of B.
   inert_path_followed :
       (s u t : ℕ) → Leads (Inert A blocks) s u → Together s t →
       (t' : ℕ) × Leads (Inert A blocks) t t' × Together u t'
@@ -151,7 +154,8 @@ module _ (A B : System) (blocks : ℕ → ℕ) (R : ℕ → ℕ → Type 0) (sys
             (goes.1, leads_on (Inert A blocks) t goes.0 goes.1 goes.2 (goes.3, inside), goes.5)
       ])
 
-  -- If R relates s and t to the same state of B, then the signature of t contains every pair in the signature of s.
+  -- If the bisimulation R relates the states s and t of A to the same state of B, then the signature of t contains
+  -- every pair in the signature of s.
   branching_within :
       (s t : ℕ) → Together s t →
       (a : List ℕ) (b : ℕ) → Signature Branching A blocks s a b → Signature Branching A blocks t a b

@@ -1,5 +1,5 @@
--- The lemmas of this crate that proofs of other crates may use. These proofs import this file and the contracts in
--- `src/`, but no other file of this folder.
+-- The lemmas of this crate that proofs of other crates may use. The proofs of other crates import this file and the
+-- contracts in `src/`, but no other file of this folder.
 pub use Rattle.theory.proofs.Deciding.{contains_here, contains_there, contains_cases, contains_none}
 pub use Rattle.theory.proofs.Paths.{leads_on, leads_map, step_below}
 pub use Rattle.theory.proofs.Counting.{block_count_at_most, numbered_count}

@@ -1,13 +1,14 @@
 -- If a relation on the numbers below a bound is decidable, then it is decidable whether a path of this relation leads
--- from one number to another. The proof is by induction on a bound for the intermediate numbers of the path (Warshall
--- 1962).
+-- from one number to another. The proof is by induction on a bound for the numbers between the first and the last
+-- number of the path (Warshall 1962).
 use Rattle.std.proofs.Common.{◌≡◌, ◌⊎◌, ℕ, zero, suc, ◌<◌, List, [], ◌∷◌, refl, subst, inl, inr, arith}
 use Rattle.std.proofs.lemmas.Bool.{cases_eq}
 use Rattle.theory.specs.System.{Along, Leads}
 use Rattle.theory.proofs.Deciding.{same_number, both, one_of, decided_like}
 use Rattle.theory.proofs.Paths.{leads_append}
 
--- `Via` holds if a path of R leads from s to t, and all of its intermediate numbers are less than k.
+-- `Via` holds if a path of the relation R leads from the number s to the number t, and every number on this path,
+-- except for the first and the last one, is less than the number k.
 abbrev Via : (ℕ → ℕ → Type 0) → ℕ → ℕ → ℕ → Type 0
 Via R zero s t = (s ≡ t) ⊎ R s t
 Via R (suc k) s t = Via R k s t ⊎ (Via R k s k × Via R k k t)
@@ -26,9 +27,10 @@ via_from : (R : ℕ → ℕ → Type 0) (k s t : ℕ) → (s ≡ t) ⊎ R s t �
 via_from R zero s t h = h
 via_from R (suc k) s t h = inl (via_from R k s t h)
 
--- A path is low if all of its intermediate numbers are less than k. Suppose that low paths can be joined at each u less
--- than k: if a low path leads from s to u, and a low path leads from u to t, then a low path leads from s to t. Then
--- the same is true with k + 1 in place of k.
+-- Let k be a number. A path between numbers is k-low if every number on the path, except for the first and the last
+-- one, is less than k. Suppose that k-low paths can be joined at each number u less than k: if one k-low path ends in
+-- u, and another one begins in u, then a k-low path leads from the beginning of the first path to the end of the second
+-- path. Then (k + 1)-low paths can be joined at each number less than k + 1.
 via_step : (R : ℕ → ℕ → Type 0) (k : ℕ)
     → ((s u t : ℕ) → u < k → Via R k s u → Via R k u t → Via R k s t)
     → (s u t : ℕ) → u < suc k → Via R (suc k) s u → Via R (suc k) u t → Via R (suc k) s t
@@ -61,8 +63,8 @@ leads_via R n b [] s t h = via_from R n s t (inl h)
 leads_via R n b (u ∷ us) s t h =
     via_joined R n s u t (b s u h.0) (via_from R n s u (inr h.0)) (leads_via R n b us u t h.1)
 
--- Suppose that R is decidable and leads only to numbers less than n. Then it is decidable whether a path of R leads
--- from s to t.
+-- Suppose that the relation R between numbers is decidable, and relates numbers only to numbers less than n. Then it is
+-- decidable whether a path of R leads from the number s to the number t.
 pub leads_decided : (R : ℕ → ℕ → Type 0) (n : ℕ) → ((s t : ℕ) → Dec (R s t)) → ((s t : ℕ) → R s t → t < n)
     → (s t : ℕ) → Dec (Leads R s t)
 leads_decided R n d b s t =

@@ -13,7 +13,8 @@ use Rattle.theory.proofs.AlikeSystems.{same_steps_sym, bisimilar_alike}
 use Rattle.theory.proofs.Embeddings.{embeds_itself, bisimilar_there, bisimilar_back}
 use Rattle.theory.proofs.UnionSteps.{union_system, embeds_left, embeds_right}
 
--- If s and t are bisimilar, then s is a state of A, and t is a state of B.
+-- If `Bisimilar` holds for the number s in the system A and the number t in the system B, then s is a state of A, and t
+-- is a state of B.
 pub bisimilar_states : (rel : Relation) (A B : System) (s t : ℕ) → Bisimilar rel A s B t →
     (s < A.states) × (t < B.states)
 bisimilar_states rel A B s t (pairs, meets, c) = meets.states s t c
@@ -50,8 +51,8 @@ module _ (rel : Relation) (A B : System) (sys : IsSystem A) (sys' : IsSystem B) 
             s t sys' sys' low low',
       )
 
-  -- Each state of A is bisimilar to the state that represents it in the union. The next lemma states that this also
-  -- holds for each state of B.
+  -- Each state of A is bisimilar to the state that represents it in the union. The next lemma states the same for each
+  -- state of B.
   pub union_of_left : (s : ℕ) → s < A.states → Bisimilar rel A s (union_of A B) s
   union_of_left s low =
       bisimilar_there rel A A A (union_of A B) (λ x. x) (λ x. x) (embeds_itself A) (embeds_left A B) s s
@@ -86,7 +87,7 @@ module _ (rel : Relation) (A B : System) (sys : IsSystem A) (sys' : IsSystem B) 
         (λ b. h.1 (equivalent_in_union.0 b), λ e. equivalent_in_union.1 (h.0 e))
 
 module _ (rel : Relation) (A B C : System) where
-  -- If s is bisimilar to t, and t is bisimilar to u, then s is bisimilar to u.
+  -- If the state s is bisimilar to the state t, and t is bisimilar to the state u, then s is bisimilar to u.
   pub bisimilar_across : IsSystem A → IsSystem C → (s t u : ℕ) → Bisimilar rel A s B t → Bisimilar rel B t C u →
       Bisimilar rel A s C u
   bisimilar_across sys sys' s t u one other =

@@ -117,7 +117,7 @@ parting_adds rel A old new split s t ls lt e apart = go (opens_decided old x.0) 
         let same : x.0 ≡ y.0 = opener_unique old x.0 y.0 f g (p ∙ (e ∙ sym q)) in
         absurd (apart (sym x.2 ∙ (ap new same ∙ y.2)))
 
--- `Hit` holds if some state less than j is in the block with the ID b.
+-- States are numbers. `Hit` holds if some state less than the number j is in the block with the ID b.
 abbrev Hit : (ℕ → ℕ) → ℕ → ℕ → Type 0
 Hit blocks j b = (s : ℕ) × (s < j) × (blocks s ≡ b)
 
@@ -125,7 +125,7 @@ hit_decided : (blocks : ℕ → ℕ) (j b : ℕ) → Dec (Hit blocks j b)
 hit_decided blocks j b = some_below (λ s. blocks s ≡ b) (λ s. same_number (blocks s) b) j
 
 module _ (blocks : ℕ → ℕ) (j : ℕ) where
-  -- Suppose that b is not the block ID of the state j. Then some state less than j + 1 is in the block b if and only if
+  -- Suppose that the block ID of the state j is not b. Then some state less than j + 1 is in the block b if and only if
   -- some state less than j is in the block b.
   hit_other : (b : ℕ) → ¬ (b ≡ blocks j) → Hit blocks j b ↔ Hit blocks (suc j) b
   hit_other b d = (
@@ -142,9 +142,9 @@ module _ (blocks : ℕ → ℕ) (j : ℕ) where
     | inr d ↦ hit_other b d
   ]
 
-  -- Consider two numbers: the number of blocks that contain a state less than j + 1, and the number of blocks that
-  -- contain a state less than j. If j is the least state of its block, the first number is one more than the second
-  -- number. Otherwise both numbers are equal.
+  -- States are numbers. Let j be a state. If j is the least state of its block, then the number of blocks that contain
+  -- a state less than j + 1 exceeds the number of blocks that contain a state less than j by 1. Otherwise these two
+  -- numbers are equal.
   hits_next : (m : ℕ) → blocks j < m → one (opens_decided blocks j) + tally (Hit blocks j) (hit_decided blocks j) m
       ≡ tally (Hit blocks (suc j)) (hit_decided blocks (suc j)) m
   hits_next m low = elim (hit_decided blocks j (blocks j)) [

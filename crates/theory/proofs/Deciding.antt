@@ -83,7 +83,7 @@ first_below P d (suc n) = go (first_below P d n) (d n)
     go (inr f) (no g) =
         inr (λ j l q. elim (cases_eq j n) [ inl e ↦ g (rw e at q) | inr e ↦ f j (omega (arith, l, e)) q ])
 
--- If n has the property P, some number is the least number with the property P.
+-- If the number n has the decidable property P, some number is the least number with the property P.
 pub least_to : (P : ℕ → Type 0) → ((k : ℕ) → Dec (P k)) → (n : ℕ) → P n →
     (k : ℕ) × (k ≤ n) × P k × ((j : ℕ) → j < k → ¬ P j)
 least_to P d n p = go (first_below P d n)

@@ -10,10 +10,11 @@ use Rattle.theory.proofs.Paths.{leads_step, leads_append, leads_answered, step_b
 use Rattle.theory.proofs.Deciding.{same_number, below, both, some_in}
 use Rattle.theory.proofs.Bisimulations.{pairs_decided, bisimilar_by}
 
--- `Embeds` holds if the function f embeds the system A in the system U. There are three conditions. First, f maps each
--- state of A to a state of U, which is called its image. Second, for each step of A from s to t, U has a step from the
--- image of s to the image of t with the same label. Third, for each step of U from the image of a state s of A, A has a
--- step from s with the same label to some state t, and the step of U leads to the image of t.
+-- `Embeds` holds if the function f embeds the system A in the system U. This means that all three of the following
+-- conditions hold. First, f maps each state of A to a state of U, which is called its image. Second, for each step of A
+-- from a state s to a state t, U has a step from the image of s to the image of t with the same label. Third, for each
+-- step of U from the image of a state s of A, A has a step from s with the same label to some state t, and the step of
+-- U leads to the image of t.
 pub record Embeds (A U : System) (f : ℕ → ℕ) : Type 0 where
   pub below : (s : ℕ) → s < A.states → f s < U.states
   pub there : (s : ℕ) (a : List ℕ) (t : ℕ) → Step A s a t → Step U (f s) a (f t)
@@ -29,8 +30,8 @@ embeds_itself A = record {
 
 module _ (B V : System) (g : ℕ → ℕ) (embeds : Embeds B V g) where
   -- Let g embed the system B in the system V (`Embeds`), so that the steps of a state of B correspond to the steps of
-  -- its image in V. If a silent path of B leads from s to t, then a silent path of V leads from the image of s to the
-  -- image of t.
+  -- its image in V. If a silent path of B leads from the state s to the state t, then a silent path of V leads from the
+  -- image of s to the image of t.
   silent_there : (s t : ℕ) → Silent B s t → Silent V (g s) (g t)
   silent_there s t path = go s path.0 path.1
     where
@@ -41,8 +42,8 @@ module _ (B V : System) (g : ℕ → ℕ) (embeds : Embeds B V g) where
           (leads_step (Internal V) (g s) (g u) (embeds.there s internal u way.0)) (go u us way.1)
 
   -- Let g embed the system B in the system V (`Embeds`), so that the steps of a state of B correspond to the steps of
-  -- its image in V. If a silent path of V leads from the image of s to y, then y is the image of some state t, and a
-  -- silent path of B leads from s to t.
+  -- its image in V. Suppose that a silent path of V leads from the image of the state s to the state y. Then y is the
+  -- image of some state t, and a silent path of B leads from s to t.
   silent_back : IsSystem B → (s y : ℕ) → s < B.states → Silent V (g s) y
       → (t : ℕ) × Silent B s t × ((t < B.states) × (y ≡ g t))
   silent_back system s y low path =
@@ -53,10 +54,10 @@ module _ (B V : System) (g : ℕ → ℕ) (embeds : Embeds B V g) where
       (g s) y s path (low, refl)
 
 module _ (A U B V : System) (f g : ℕ → ℕ) (one : Embeds A U f) (other : Embeds B V g) (R Q : ℕ → ℕ → Type 0) where
-  -- Let f embed the system A in the system U, and let g embed B in V (`Embeds`), so that the steps of a state
-  -- correspond to the steps of its image. Suppose that Q relates the images of any two states that R relates. If the
-  -- state t of B matches the steps of the state s of A with respect to R, then the image of t matches the steps of the
-  -- image of s with respect to Q.
+  -- Let f embed the system A in the system U, and let g embed the system B in the system V (`Embeds`), so that the
+  -- steps of a state correspond to the steps of its image. Suppose that the relation Q relates the images of any two
+  -- states that the relation R relates. If the state t of B matches the steps of the state s of A with respect to R,
+  -- then the image of t matches the steps of the image of s with respect to Q.
   answers_there : (rel : Relation) → ((s t : ℕ) → R s t → Q (f s) (g t))
       → (s t : ℕ) → s < A.states → Matches rel A B R s t → Matches rel U V Q (f s) (g t)
   answers_there Strong into s t low answers = λ a x step.
@@ -77,9 +78,10 @@ module _ (A U B V : System) (f g : ℕ → ℕ) (one : Embeds A U f) (other : Em
         )
       ]
 
-  -- Let f embed the system A in the system U, and let g embed B in V (`Embeds`), so that the steps of a state
-  -- correspond to the steps of its image. Suppose that R relates any two states whose images are related by Q. If the
-  -- image of t matches the steps of the image of s with respect to Q, then t matches the steps of s with respect to R.
+  -- Let f embed the system A in the system U, and let g embed the system B in the system V (`Embeds`), so that the
+  -- steps of a state correspond to the steps of its image. Suppose that the relation R relates any two states whose
+  -- images are related by the relation Q. If the image of the state t of B matches the steps of the image of the state
+  -- s of A with respect to Q, then t matches the steps of s with respect to R.
   answers_back : (rel : Relation) → IsSystem A → IsSystem B
       → ((s t : ℕ) → s < A.states → t < B.states → Q (f s) (g t) → R s t)
       → (s t : ℕ) → s < A.states → t < B.states → Matches rel U V Q (f s) (g t) → Matches rel A B R s t
@@ -107,8 +109,9 @@ module _ (A U B V : System) (f g : ℕ → ℕ) (one : Embeds A U f) (other : Em
 
 module _ (rel : Relation) (A U B V : System) (f g : ℕ → ℕ) (one : Embeds A U f) (other : Embeds B V g)
     (pairs : List (ℕ × ℕ)) where
-  -- The function f maps states of A to their images in U, and g maps states of B to their images in V. `Image` holds
-  -- for x and y if the list `pairs` contains a pair (s, t) such that x is the image of s, and y is the image of t.
+  -- The function f maps states of the system A to their images in the system U, and g maps states of the system B to
+  -- their images in the system V. `Image` holds for x and y if the list `pairs` contains a pair (s, t) such that x is
+  -- the image of s, and y is the image of t.
   abbrev Image : ℕ → ℕ → Type 0
   Image x y = (p : ℕ × ℕ) × Contains pairs p × ((f p.0 ≡ x) × (g p.1 ≡ y))
 
@@ -134,8 +137,9 @@ module _ (rel : Relation) (A U B V : System) (f g : ℕ → ℕ) (one : Embeds A
         p.1 p.0 (meets.states p.0 p.1 c).1 (meets.back p.0 p.1 c));
   }
 
-  -- The function f maps states of A to their images in U, and g maps states of B to their images in V. `Beneath` holds
-  -- for a state s of A and a state t of B if the list `pairs` contains the pair of their images.
+  -- The function f maps states of the system A to their images in the system U, and g maps states of the system B to
+  -- their images in the system V. `Beneath` holds for a state s of A and a state t of B if the list `pairs` contains
+  -- the pair of their images.
   abbrev Beneath : ℕ → ℕ → Type 0
   Beneath s t = (s < A.states) × ((t < B.states) × Pairs pairs (f s) (g t))
 
@@ -154,17 +158,17 @@ module _ (rel : Relation) (A U B V : System) (f g : ℕ → ℕ) (one : Embeds A
   }
 
 module _ (rel : Relation) (A U B V : System) (f g : ℕ → ℕ) (one : Embeds A U f) (other : Embeds B V g) (s t : ℕ) where
-  -- Let f embed the system A in the system U, and let g embed B in V (`Embeds`), so that the steps of a state
-  -- correspond to the steps of its image. If a state of A and a state of B are bisimilar, then their images are
-  -- bisimilar.
+  -- Let f embed the system A in the system U, and let g embed the system B in the system V (`Embeds`), so that the
+  -- steps of a state correspond to the steps of its image. If a state of A and a state of B are bisimilar, then their
+  -- images are bisimilar.
   pub bisimilar_there : Bisimilar rel A s B t → Bisimilar rel U (f s) V (g t)
   bisimilar_there (pairs, meets, c) =
       bisimilar_by rel U V (Image rel A U B V f g one other pairs) (image_decided rel A U B V f g one other pairs)
       (image_bisimulation rel A U B V f g one other pairs meets) (f s) (g t) ((s, t), c, (refl, refl))
 
-  -- Let f embed the system A in the system U, and let g embed B in V (`Embeds`), so that the steps of a state
-  -- correspond to the steps of its image. If the images of a state of A and a state of B are bisimilar, then the two
-  -- states are bisimilar.
+  -- Let f embed the system A in the system U, and let g embed the system B in the system V (`Embeds`), so that the
+  -- steps of a state correspond to the steps of its image. If the images of a state of A and a state of B are
+  -- bisimilar, then the two states are bisimilar.
   pub bisimilar_back : IsSystem A → IsSystem B → s < A.states → t < B.states
       → Bisimilar rel U (f s) V (g t) → Bisimilar rel A s B t
   bisimilar_back sys sys' low low' (pairs, meets, c) =

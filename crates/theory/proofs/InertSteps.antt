@@ -22,8 +22,8 @@ module _ (A : System) (blocks : ℕ → ℕ) where
   abbrev pub IsOwn : ℕ → List ℕ → ℕ → Type 0
   IsOwn s a b = (t : ℕ) × Step A s a t × (blocks t ≡ b) × ¬ ((a ≡ internal) × (b ≡ blocks s))
 
-  -- Each pair in the signature of s comes from a step of s that is not inert, or is also in the signature of a state to
-  -- which an inert step of s leads.
+  -- Each pair in the signature of the state s comes from a step of s that is not inert, or is in the signature of a
+  -- state to which an inert step of s leads.
   pub signature_only : (s : ℕ) (a : List ℕ) (b : ℕ) → Signature Branching A blocks s a b
       → IsOwn s a b ⊎ ((t : ℕ) × Inert A blocks s t × Signature Branching A blocks t a b)
   signature_only s a b (u, t, way, step, at, shows) = elim (leads_begins (Inert A blocks) s u way) [
@@ -31,7 +31,7 @@ module _ (A : System) (blocks : ℕ → ℕ) where
     | inr on ↦ inr (on.0, on.1, (u, t, on.2, step, at, λ inert. shows (inert.0, inert.1 ∙ on.1.1)))
   ]
 
-  -- If paths of inert steps lead from s to t and from t to s, the signatures of s and t are equal.
+  -- If paths of inert steps lead from the state s to the state t and back, the signatures of s and t are equal.
   pub signature_mutual : (s t : ℕ) → Leads (Inert A blocks) s t → Leads (Inert A blocks) t s →
       SameSignature Branching A blocks s t
   signature_mutual s t there back a b =

@@ -11,7 +11,7 @@ use Rattle.theory.proofs.Paths.{leads_here, step_below, reachable_below}
 use Rattle.theory.proofs.Closure.{leads_decided}
 use Rattle.theory.proofs.Turning.{bisimilar_refl, bisimilar_sym, bisimilar_trans, bisimilar_decided}
 
--- It is decidable whether some step leads from s to t.
+-- It is decidable whether some step leads from the state s to the state t.
 any_step_decided : (A : System) (s t : ℕ) → Dec (AnyStep A s t)
 any_step_decided A s t =
     decided_like
@@ -65,8 +65,8 @@ module _ (rel : Relation) (A : System) (sys : IsSystem A) where
   same_leader_bisimilar s t l h g =
       bisimilar_trans rel A sys s l t (leader_fellow s l h).1 (bisimilar_sym rel A sys t l (leader_fellow t l g).1)
 
-  -- The leader of a state is the state that represents its class. If l is the leader of some state, then l is also its
-  -- own leader.
+  -- The leader of a state is the state that represents its class. If l is the leader of some state, then l is the
+  -- leader of l.
   pub leads_itself : (s l : ℕ) → Leader rel A s l → Leader rel A l l
   leads_itself s l h = leader_carried s l l (leader_fellow s l h).1 h
 

@@ -1,11 +1,13 @@
--- Builds the list of all pairs of numbers below a bound that have a decidable property.
+-- Let P be a decidable property of pairs of numbers. This file builds the list of all pairs with the property P whose
+-- numbers are both below a bound.
 use Rattle.std.proofs.Common.{◌≡◌, ◌↔◌, ℕ, zero, suc, ◌<◌, List, [], ◌∷◌, ◌++◌, Contains, refl, subst, inl, inr, arith}
 use Rattle.std.proofs.lemmas.Bool.{cases_eq}
 use Rattle.std.proofs.lemmas.List.Elements.{Contains-append_left, Contains-append_right, Contains-append_cases}
 use Rattle.theory.specs.Bisimulation.{Pairs}
 use Rattle.theory.proofs.Deciding.{contains_here, contains_cases, contains_none}
 
--- Some list contains exactly the elements of the lists `f k` for all k less than n.
+-- Let f be a function that maps numbers to lists. Then some list contains exactly the elements of the lists `f k` for
+-- all k less than n.
 gathered : {X : Type 0} (f : ℕ → List X) (n : ℕ) →
     (xs : List X) × ((x : X) → Contains xs x ↔ ((k : ℕ) × (k < n) × Contains (f k) x))
 gathered f zero = ([], λ x. (λ c. absurd (contains_none x c), λ h. absurd (omega (arith, h.1))))
@@ -35,7 +37,8 @@ alone {X} {P} y (yes p) = (y ∷ [], λ x. (to x, λ h. subst (Contains (y ∷ [
     to x c = elim (contains_cases y [] x c) [ inl e ↦ (e, p) | inr f ↦ absurd (contains_none x f) ]
 alone y (no f) = ([], λ x. (λ c. absurd (contains_none x c), λ h. absurd (f h.1)))
 
--- If P is decidable, some list contains exactly the pairs of numbers less than n for which P holds.
+-- If the property P of pairs is decidable, some list contains exactly the pairs of numbers less than n that have this
+-- property.
 pub pairs_listed : (n : ℕ) (P : ℕ → ℕ → Type 0) → ((s t : ℕ) → Dec (P s t))
     → (pairs : List (ℕ × ℕ)) × ((s t : ℕ) → Pairs pairs s t ↔ ((s < n) × (t < n) × P s t))
 pairs_listed n P d = (whole.0, λ s t. (to s t, from s t))

@@ -15,21 +15,23 @@ along_append R s t u (v ∷ vs) ws p q = (p.0, along_append R v t u vs ws p.1 q)
 pub leads_here : (R : ℕ → ℕ → Type 0) (s : ℕ) → Leads R s s
 leads_here R s = ([], refl)
 
--- If R relates s to t, then a path of R leads from s to t.
+-- If the relation R relates the state s to the state t, then a path of R leads from s to t.
 pub leads_step : (R : ℕ → ℕ → Type 0) (s t : ℕ) → R s t → Leads R s t
 leads_step R s t r = (t ∷ [], (r, refl))
 
--- If a path leads from s to t, and a path leads from t to u, then a path leads from s to u.
+-- If a path leads from the state s to the state t, and a path leads from t to the state u, then a path leads from s to
+-- u.
 pub leads_append : (R : ℕ → ℕ → Type 0) (s t u : ℕ) → Leads R s t → Leads R t u → Leads R s u
 leads_append R s t u p q = (p.0 ++ q.0, along_append R s t u p.0 q.0 p.1 q.1)
 
--- If a path leads from s to t, and a step leads from t to u, then a path leads from s to u.
+-- If a path leads from the state s to the state t, and a step leads from t to the state u, then a path leads from s to
+-- u.
 pub leads_on : (R : ℕ → ℕ → Type 0) (s t u : ℕ) → Leads R s t → R t u → Leads R s u
 leads_on R s t u p r = leads_append R s t u p (leads_step R t u r)
 
--- Suppose that S can follow each step of R: if R relates s to t, and Q relates s to p, then a path of S leads from p to
--- some q, and Q relates t to q. Then S can follow each path of R: if a path of R leads from s to t, and Q relates s to
--- p, then a path of S leads from p to some q, and Q relates t to q.
+-- Let Q, R and S be relations. Suppose that S can follow each step of R: if R relates s to t, and Q relates s to p,
+-- then a path of S leads from p to some q, and Q relates t to q. Then S can follow each path of R: if a path of R leads
+-- from s to t, and Q relates s to p, then a path of S leads from p to some q, and Q relates t to q.
 pub leads_answered :
     (R S Q : ℕ → ℕ → Type 0) →
     ((s t p : ℕ) → R s t → Q s p → (q : ℕ) × Leads S p q × Q t q) →
@@ -43,14 +45,14 @@ leads_answered R S Q step s t p path tied = go s path.0 p path.1 tied
         let rest = go u us first.0 path.1 first.2 in
         (rest.0, leads_append S p first.0 rest.0 first.1 rest.1, rest.2)
 
--- If each step of R preserves a property, every path of R preserves this property.
+-- If each step of the relation R preserves a property, every path of R preserves this property.
 pub leads_keeps :
     (R : ℕ → ℕ → Type 0) (P : ℕ → Type 0) → ((s t : ℕ) → R s t → P s → P t) →
     (s t : ℕ) → Leads R s t → P s → P t
 leads_keeps R P step s t path held =
     (leads_answered R R (λ x p. P x) (λ x y p r h. (p, leads_here R p, step x y r h)) s t s path held).2
 
--- If each step of R is a step of S, every path of R is a path of S.
+-- If each step of the relation R is a step of the relation S, every path of R is a path of S.
 pub leads_map : (R S : ℕ → ℕ → Type 0) → ((s t : ℕ) → R s t → S s t) → (s t : ℕ) → Leads R s t → Leads S s t
 leads_map R S step s t path = go s path.0 path.1
   where
@@ -76,6 +78,6 @@ reachable_below A system s path =
     leads_keeps (AnyStep A) (λ x. x < A.states) (λ x y r h. (step_below A system x r.0 y r.1).1) A.first s
     path system.first
 
--- If a step leads from a reachable state to t, then t is reachable.
+-- If a step leads from a reachable state to the state t, then t is reachable.
 pub reachable_on : (A : System) (s : ℕ) (a : List ℕ) (t : ℕ) → Reachable A s → Step A s a t → Reachable A t
 reachable_on A s a t path step = leads_on (AnyStep A) A.first s t path (a, step)

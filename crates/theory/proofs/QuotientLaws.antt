@@ -12,12 +12,12 @@ use Rattle.theory.proofs.Deciding.{same_number, same_bytes, both}
 use Rattle.theory.proofs.Paths.{leads_map, leads_append, reachable_on}
 use Rattle.theory.proofs.Numbers.{number_of, first_number, number_below}
 
--- The class number of a reachable state is the quotient state that represents it. `Numbered` holds if the state s is
--- reachable and has the class number n.
+-- The class number of a reachable state is the quotient state that represents the class of this state. `Numbered` holds
+-- if the state s is reachable and has the class number n.
 abbrev pub Numbered : Relation → System → ℕ → ℕ → Type 0
 Numbered rel A s n = Reachable A s × Number rel A s n
 
--- If a silent path leads from a reachable state to t, then t is reachable.
+-- If a silent path leads from a reachable state to the state t, then t is reachable.
 pub reachable_silent : (A : System) (s t : ℕ) → Reachable A s → Silent A s t → Reachable A t
 reachable_silent A s t path silent =
     leads_append (AnyStep A) A.first s t path (leads_map (Internal A) (AnyStep A) (λ x y r. (internal, r)) s t silent)
@@ -54,9 +54,9 @@ module _ (rel : Relation) (A Q : System) (sys : IsSystem A) (quotient : Quotient
         stands_among e ((quotient.transitions e).0 (Contains-get_or Q.transitions k d l)).0;
   }
 
-  -- Suppose that the reachable state s has a step to t with the label a. Let n be the quotient state that represents s.
-  -- Then some quotient state m represents t, and the quotient has a step from n to m with the label a, unless it leaves
-  -- out such a step (`IsDropped`).
+  -- Suppose that the reachable state s has a step with the label a to the state t. Let n be the quotient state that
+  -- represents s. Then some quotient state m represents t, and the quotient has a step from n to m with the label a,
+  -- unless it leaves out such a step (`IsDropped`).
   pub step_numbered : (s n : ℕ) (a : List ℕ) (t : ℕ) → Numbered rel A s n → Step A s a t →
       (m : ℕ) × Numbered rel A t m × (Step Q n a m ⊎ IsDropped rel (record { source = n; label = a; target = m }))
   step_numbered s n a t (path, number) step =

@@ -15,8 +15,8 @@ use Rattle.theory.proofs.Numbers.{number_once, number_carried, number_taken}
 use Rattle.theory.proofs.QuotientLaws.{Numbered, step_numbered}
 use Rattle.theory.proofs.QuotientSteps.{strong_back, branching_goes, silent_goes}
 
--- `Pulled` holds for the states x and y of A if R relates the quotient state m that represents x to the quotient state
--- n that represents y.
+-- `Pulled` holds for the states x and y of A if the relation R relates the quotient state m that represents x to the
+-- quotient state n that represents y.
 abbrev Pulled : Relation → System → (ℕ → ℕ → Type 0) → ℕ → ℕ → Type 0
 Pulled rel A R x y = (m n : ℕ) × Numbered rel A x m × Numbered rel A y n × R m n
 

@@ -12,13 +12,14 @@ use Rattle.theory.proofs.Leaders.{first_reachable}
 use Rattle.theory.proofs.Numbers.{number_once, number_carried, same_number_bisimilar, number_decided, first_number}
 use Rattle.theory.proofs.QuotientLaws.{Numbered, reachable_silent, number_state, step_numbered}
 
--- `Fellows` holds if some state x of A is bisimilar to s and has a step with the label a to some state y. The quotient
--- state n must represent x, and the quotient state m must represent y.
+-- `Fellows` holds if there are states x and y of the system A such that x is bisimilar to the state s, and a step with
+-- the label a leads from x to y. The quotient state n must represent x, and the quotient state m must represent y.
 abbrev Fellows : Relation → System → ℕ → ℕ → List ℕ → ℕ → Type 0
 Fellows rel A s n a m = (x y : ℕ) × Bisimilar rel A x A s × Step A x a y × Number rel A x n × Number rel A y m
 
--- Let n be the quotient state that represents s, and let the quotient have a step from n to m with the label a. Then
--- some state that is bisimilar to s has a step with the label a to a state that m represents.
+-- Let n be the quotient state that represents the state s, and let the quotient have a step with the label a from n to
+-- the quotient state m. Then some state that is bisimilar to s has a step with the label a to a state that m
+-- represents.
 step_stands : (rel : Relation) (A Q : System) → IsSystem A → Quotient rel A Q →
     (s n : ℕ) (a : List ℕ) (m : ℕ) → Number rel A s n → Step Q n a m → Fellows rel A s n a m
 step_stands rel A Q sys quotient s n a m number step =
@@ -60,15 +61,15 @@ module _ (A Q : System) (sys : IsSystem A) (quotient : Quotient Branching A Q) w
         | inr drop ↦ inl (drop.0, subst (Numbered Branching A t) (sym drop.1) on.1)
       ]
 
-  -- `Goes` holds if a silent path leads from s to some state that the quotient state n represents, and a step with the
-  -- label a leads from this state to some state that the quotient state m represents.
+  -- `Goes` holds if a silent path leads from the state s to some state that the quotient state n represents, and a step
+  -- with the label a leads from this state to some state that the quotient state m represents.
   abbrev Goes : ℕ → ℕ → List ℕ → ℕ → Type 0
   Goes s n a m =
       (u t : ℕ) × Silent A s u × Step A u a t × Numbered Branching A u n × Numbered Branching A t m
 
-  -- Let n be the quotient state that represents s, and let the quotient have a step from n to m with the label a. Then
-  -- s matches this step: a silent path leads from s to some state that n represents, and a step with the label a leads
-  -- from this state to some state that m represents.
+  -- Let n be the quotient state that represents the state s, and let the quotient have a step with the label a from n
+  -- to the quotient state m. Then s matches this step: a silent path leads from s to some state that n represents, and
+  -- a step with the label a leads from this state to some state that m represents.
   pub branching_goes : (s n : ℕ) (a : List ℕ) (m : ℕ) → Numbered Branching A s n → Step Q n a m → Goes s n a m
   branching_goes s n a m h step =
       let (x, y, (pairs, bisimulation, related), there, before, after) : Fellows Branching A s n a m =
@@ -96,8 +97,8 @@ module _ (A Q : System) (sys : IsSystem A) (quotient : Quotient Branching A Q) w
   branching_back : (s n : ℕ) → Numbered Branching A s n → Matches Branching Q A (Converse (Numbered Branching A)) n s
   branching_back s n h = λ a m step. inr (branching_goes s n a m h step)
 
-  -- If a silent path of the quotient leads from n to m, then a silent path of A leads from each state that n represents
-  -- to some state that m represents.
+  -- If a silent path of the quotient leads from the quotient state n to the quotient state m, then a silent path of A
+  -- leads from each state that n represents to some state that m represents.
   pub silent_goes : (n m s : ℕ) → Silent Q n m → Numbered Branching A s n →
       (t : ℕ) × Silent A s t × Numbered Branching A t m
   silent_goes = leads_answered (Internal Q) (Internal A) (λ q s. Numbered Branching A s q) (λ n m s step h.

@@ -39,7 +39,8 @@ module _ (rel : Relation) (A : System) (sys : IsSystem A) where
       let new : (new : ℕ → ℕ) × Split rel A old.0 new = split_of_blocks old.0 in
       (new.0, (old.0, old.1, new.1))
 
-  -- If two functions describe the same partition, then their splits describe the same partition.
+  -- Suppose that two functions from states to block IDs describe the same partition, and that both functions are split
+  -- by signatures. Then the two resulting functions describe the same partition.
   pub same_split : (old new old' new' : ℕ → ℕ) → Split rel A old new → Split rel A old' new' → SameBlocks A old old'
       → SameBlocks A new new'
   same_split old new old' new' split split' same s t ls lt = (
@@ -54,7 +55,8 @@ module _ (rel : Relation) (A : System) (sys : IsSystem A) where
         (split' s t ls lt).1 ((same s t ls lt).1 h.0, same_signature_carried A sys old old' same rel s t ls lt h.1),
   )
 
-  -- Any two functions that describe the partition after k splits describe the same partition.
+  -- Suppose that two functions from states to block IDs both result from k splits of the partition with only one block.
+  -- Then these functions describe the same partition.
   pub after_is_unique : (k : ℕ) (one two : ℕ → ℕ) → After rel A k one → After rel A k two → SameBlocks A one two
   after_is_unique zero one two h g = λ s t ls lt. (λ e. h s t ls lt, λ e. g s t ls lt)
   after_is_unique (suc k) one two h g =

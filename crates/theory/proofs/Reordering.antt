@@ -1,5 +1,5 @@
--- If a symmetric relation holds for any two elements of a list, then it also holds for any two elements of the
--- reordered list.
+-- If a symmetric relation holds for any two elements of a list, then the relation holds for any two elements of each
+-- permutation of the list.
 use Rattle.std.proofs.Common.{◌≡◌, ◌≢◌, ◌⊎◌, ℕ, ◌<◌, List, length, get_or, swap, AllPairs, refl, ap, ◌∙◌, inl, inr}
 use Rattle.std.proofs.Common.{arith}
 use Rattle.std.specs.List.Sorted.{IsPermutation}
@@ -32,8 +32,8 @@ differ i j a b m n one other apart same = omega (arith, one, other, apart, same)
 
 -- The following lemmas assume that the relation R is symmetric.
 module _ {X : Type 0} (R : X → X → Type 0) (turn : (x y : X) → R x y → R y x) where
-  -- If R relates each element of a list to each later element, then R relates the elements at any two different
-  -- indices.
+  -- If the symmetric relation R relates each element of a list to each later element, then R relates the elements at
+  -- any two different indices.
   two_places : (xs : List X) → AllPairs R xs → (i j : ℕ) (d : X) → i ≢ j → i < length xs → j < length xs →
       R (get_or xs i d) (get_or xs j d)
   two_places xs pairs i j d differ low high = elim (leb_tells i j) [
@@ -49,6 +49,7 @@ module _ {X : Type 0} (R : X → X → Type 0) (turn : (x y : X) → R x y → R
       rw (from.2, to.2) (two_places xs pairs from.0 to.0 d (differ i j a b from.0 to.0 from.3 to.3 (omega arith)) from.1
       to.1)
 
-  -- If R holds for any two elements of a list, it holds for any two elements of the reordered list.
+  -- If the symmetric relation R holds for any two elements of a list, then R holds for any two elements of each
+  -- permutation of the list.
   pub all_pairs_permutation : (xs ys : List X) → IsPermutation xs ys → AllPairs R xs → AllPairs R ys
   all_pairs_permutation xs ys moved pairs = IsPermutation-keeps xs (AllPairs R) pairs all_pairs_swap ys moved

@@ -12,7 +12,7 @@ use Rattle.theory.proofs.Paths.{step_below}
 use Rattle.theory.proofs.Refinement.{blocks_after, after_stable, final_share}
 use Rattle.theory.proofs.Turning.{turns_found}
 
--- `Makes` holds if the state s has a step with the label a to some state that is bisimilar to t.
+-- `Makes` holds if the state s has a step with the label a to some state that is bisimilar to the state t.
 abbrev pub Makes : Relation → System → ℕ → List ℕ → ℕ → Type 0
 Makes rel A s a t = (u : ℕ) × Step A s a u × Bisimilar rel A t A u
 
@@ -47,9 +47,10 @@ module _ (A : System) (sys : IsSystem A) (blocks : ℕ → ℕ) where
           let first = step_below A sys s internal w way.0.0 in
           absurd (none internal w way.0.0 (refl, (is s w).0 (first.0, first.1, sym way.0.1)))
 
--- Let s and t be bisimilar states, and let s have no inert steps. Suppose that a step of t with the label a leads to u,
--- and that this step is not inert. Then some step of s with the label a leads to a state that is bisimilar to u. The
--- proof uses a stable partition whose blocks are the classes of bisimilar states.
+-- Let s and t be bisimilar states, and let s have no inert steps. Suppose that a step of t with the label a leads to
+-- the state u, and that this step is not inert. Then some step of s with the label a leads to a state that is bisimilar
+-- to u. The proof uses a partition whose blocks are the classes of bisimilar states, and in which any two states of a
+-- block have equal signatures.
 pub all_made : (rel : Relation) (A : System) (s t : ℕ) (a : List ℕ) (u : ℕ) → IsSystem A → Bisimilar rel A s A t →
     ((b : List ℕ) (v : ℕ) → Step A s b v → ¬ ShowsNothing rel A s b v) → Step A t a u → ¬ ShowsNothing rel A t a u →
     Makes rel A s a u

@@ -131,7 +131,7 @@ module _ (A : System) (blocks : ℕ → ℕ) where
       (both (leaving_decided (Leads (Inert A blocks) s) (inert_leads_decided sys s) a b)
       (not_so (both (same_bytes a internal) (same_number b (blocks s)))))
 
-  -- It is decidable whether the signature of t contains every pair in the signature of s.
+  -- It is decidable whether the signature of the state t contains every pair in the signature of the state s.
   nested_decided : (rel : Relation) → IsSystem A → (s t : ℕ)
       → Dec ((a : List ℕ) (b : ℕ) → Signature rel A blocks s a b → Signature rel A blocks t a b)
   nested_decided rel sys s t =

@@ -15,7 +15,7 @@ use Rattle.theory.proofs.Leaders.{reachable_decided}
 use Rattle.theory.proofs.Numbers.{number_of, number_once, number_carried, first_number, number_below, number_taken}
 
 -- Suppose that the state t matches each step of the state s, with respect to the relation R. If some step leads from s
--- to s', then R relates s' to some state.
+-- to the state s', then R relates s' to some state.
 answered : (rel : Relation) (A B : System) (R : ℕ → ℕ → Type 0) (s t : ℕ) → Matches rel A B R s t →
     (s' : ℕ) → AnyStep A s s' → (t' : ℕ) × R s' t'
 answered Strong A B R s t answers s' step = (let found = answers step.0 s' step.1 in (found.0, found.2))
@@ -43,8 +43,8 @@ module _ (rel : Relation) (A Q B : System) (sys : IsSystem A) (quotient : Quotie
   met_decided t = some_below (λ s. Reachable A s × Pairs pairs s t)
       (λ s. both (reachable_decided rel A sys s) (pairs_decided pairs s t)) A.states
 
-  -- Returns the quotient state that represents the reachable states of A that the bisimulation relates to t. If the
-  -- bisimulation relates no reachable state to t, the result is 0.
+  -- Let t be a state of B. One quotient state represents all reachable states of A that the bisimulation relates to t.
+  -- Returns this quotient state, or 0 if the bisimulation relates no reachable state of A to t.
   number_at : (t : ℕ) → Dec (Met t) → ℕ
   number_at t (yes h) = (number_of rel A sys h.0 h.2.0).0
   number_at t (no f) = 0
@@ -66,8 +66,8 @@ module _ (rel : Relation) (A Q B : System) (sys : IsSystem A) (quotient : Quotie
       (number_carried rel A sys s h.0 n alike number)
   number_at_is t s n path related number (no f) = absurd (f (s, reachable_below A sys s path, (path, related)))
 
-  -- The function `number_at` maps a state t of B to the quotient state that represents the reachable states of A that
-  -- the bisimulation relates to t. For each quotient state n, the function maps some state of B to n.
+  -- The function `number_at` maps each state t of B to a quotient state, which represents the reachable states of A
+  -- that the bisimulation relates to t. For each quotient state n, the function maps some state of B to n.
   number_used : (n : ℕ) → n < Q.states → (t : ℕ) × (t < B.states) × (number_at t (met_decided t) ≡ n)
   number_used n low =
       let taken : (s : ℕ) × Reachable A s × Number rel A s n = number_taken rel A sys Q.states quotient.states n low in

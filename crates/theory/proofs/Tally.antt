@@ -1,4 +1,4 @@
--- The tally of n for a decidable property is the number of numbers less than n that have this property. This file
+-- The tally of a number n for a decidable property counts the numbers less than n that have this property. This file
 -- proves how the tally depends on n and on the property.
 use Rattle.std.proofs.Common.{◌≡◌, ◌↔◌, ℕ, List, zero, suc, ◌+◌, ◌<◌, ◌≤◌, [], ◌∷◌, ◌++◌, Contains, refl, sym, ◌∙◌, ap}
 use Rattle.std.proofs.Common.{subst, inl, inr, arith, length-append}
@@ -47,14 +47,14 @@ pub how_many_like : (P Q : ℕ → Type 0) (n : ℕ) → ((k : ℕ) → P k ↔ 
 how_many_like P Q n like (xs, up, has, long) =
     (xs, up, λ k. (λ c. (like k).0 ((has k).0 c), λ q. (has k).1 ((like k).1 q)), long)
 
--- If a property holds for exactly m numbers, and also for exactly n numbers, then m and n are equal.
+-- If a property holds for exactly m numbers, and the same property holds for exactly n numbers, then m and n are equal.
 pub how_many_unique : (P : ℕ → Type 0) (m n : ℕ) → HowMany P m → HowMany P n → m ≡ n
 how_many_unique P m n (xs, up, has_xs, long) (ys, vp, has_ys, tall) =
     sym long ∙ same_length xs ys up vp
     (λ k. (λ c. (has_ys k).1 ((has_xs k).0 c), λ c. (has_xs k).1 ((has_ys k).0 c))) ∙ tall
 
 module _ (P : ℕ → Type 0) (d : (k : ℕ) → Dec (P k)) where
-  -- Returns the tally of n, which is the number of numbers less than n that have the property P.
+  -- Returns the tally of the number n, which counts the numbers less than n that have the property P.
   pub tally : ℕ → ℕ
   tally zero = 0
   tally (suc n) = tally n + one (d n)
@@ -178,18 +178,18 @@ tally_none P p (suc n) f =
     omega (arith, tally_none P p n (λ k l. f k (omega (arith, l))), one_no (f n (omega arith)) (p n))
 
 module _ (P Q : ℕ → Type 0) (p : (k : ℕ) → Dec (P k)) (q : (k : ℕ) → Dec (Q k)) where
-  -- The tally of n for a property is the number of numbers less than n that have this property. Suppose that each
-  -- number less than n with the property P also has the property Q. Then the tally of n for P is at most the tally of n
-  -- for Q.
+  -- The tally of a number n for a property counts the numbers less than n that have this property. Suppose that each
+  -- number less than n with the property P has the property Q as well. Then the tally of n for P is at most the tally
+  -- of n for Q.
   pub tally_le : (n : ℕ) → ((k : ℕ) → k < n → P k → Q k) → tally P p n ≤ tally Q q n
   unfolding tally
   tally_le zero f = omega arith
   tally_le (suc n) f =
       omega (arith, tally_le n (λ k l. f k (omega (arith, l))), one_le (f n (omega arith)) (p n) (q n))
 
-  -- The tally of n for a property is the number of numbers less than n that have this property. Suppose that each
-  -- number less than n with the property P also has the property Q, and that some number less than n has the property Q
-  -- but not the property P. Then the tally of n for P is less than the tally of n for Q.
+  -- The tally of a number n for a property counts the numbers less than n that have this property. Suppose that each
+  -- number less than n with the property P has the property Q as well, and that some number less than n has the
+  -- property Q but not the property P. Then the tally of n for P is less than the tally of n for Q.
   pub tally_greater : (n : ℕ) → ((k : ℕ) → k < n → P k → Q k) → (k : ℕ) → k < n → ¬ P k → Q k →
       tally P p n < tally Q q n
   unfolding tally
@@ -207,8 +207,8 @@ module _ (P Q : ℕ → Type 0) (p : (k : ℕ) → Dec (P k)) (q : (k : ℕ) →
     )
   ]
 
-  -- The tally of n for a property is the number of numbers less than n that have this property. Suppose that P and Q
-  -- hold for the same numbers less than n. Then the tally of n for P equals the tally of n for Q.
+  -- The tally of a number n for a property counts the numbers less than n that have this property. Suppose that the
+  -- properties P and Q hold for the same numbers less than n. Then the tally of n for P equals the tally of n for Q.
   pub tally_same : (n : ℕ) → ((k : ℕ) → k < n → P k ↔ Q k) → tally P p n ≡ tally Q q n
   unfolding tally
   tally_same zero f = refl
@@ -217,9 +217,10 @@ module _ (P Q : ℕ → Type 0) (p : (k : ℕ) → Dec (P k)) (q : (k : ℕ) →
       let top : one (p n) ≡ one (q n) = one_same (f n (omega arith)) (p n) (q n) in
       omega (arith, rest, top)
 
-  -- The tally of n for a property is the number of numbers less than n that have this property. Suppose that x is less
-  -- than n, that Q holds for x but P does not, and that P and Q agree on all other numbers less than n. Then the tally
-  -- of n for Q is one more than the tally of n for P.
+  -- The tally of a number n for a property counts the numbers less than n that have this property. Suppose that the
+  -- number x is less than n, and that the property Q but not the property P holds for x. Suppose also that, among all
+  -- other numbers less than n, P and Q hold for the same numbers. Then the tally of n for Q exceeds the tally of n for
+  -- P by 1.
   pub tally_one_more : (n x : ℕ) → x < n → ¬ P x → Q x → ((k : ℕ) → k < n → ¬ (k ≡ x) → P k ↔ Q k)
       → tally Q q n ≡ suc (tally P p n)
   unfolding tally

@@ -13,8 +13,8 @@ use Rattle.theory.proofs.Refinement.{bisimilar_to_one_share}
 use Rattle.theory.proofs.Counting.{block_count, block_count_at_most, block_count_some, split_cases, same_blocks_decided}
 use Rattle.theory.proofs.Counting.{parting_adds}
 
--- `Grown` holds under two conditions. First, each of the first k splits has changed something, and `blocks` is the
--- partition after these splits (`Underway`). Second, this partition has more than k blocks.
+-- `Grown` holds if both of the following conditions hold. First, each of the first k splits has changed something, and
+-- `blocks` is the partition after these splits (`Underway`). Second, this partition has more than k blocks.
 record Grown (rel : Relation) (A : System) (k : ℕ) (blocks : ℕ → ℕ) : Type 0 where
   pub underway : Underway rel A k blocks
   pub many : k < block_count A blocks
@@ -40,8 +40,9 @@ module _ (rel : Relation) (A : System) (sys : IsSystem A) where
   grown_begun blocks one =
       record { underway = underway_begun blocks one; many = block_count_some A blocks (omega (arith, sys.first)) }
 
-  -- Refinement is in progress if each split so far has changed something. If refinement is in progress after k splits,
-  -- and the next split changes something, then refinement is in progress after k + 1 splits.
+  -- Refinement is in progress after k splits if each of the first k splits has changed something (`Underway`). If
+  -- refinement is in progress after k splits, and the next split changes something, then refinement is in progress
+  -- after k + 1 splits.
   pub underway_more : (k : ℕ) (old new : ℕ → ℕ) → Underway rel A k old → Split rel A old new → ¬ SameBlocks A old new
       → Underway rel A (suc k) new
   underway_more k old new h split apart = record {
@@ -62,8 +63,9 @@ module _ (rel : Relation) (A : System) (sys : IsSystem A) where
     ];
   }
 
-  -- Refinement is in progress if each split so far has changed something. If refinement is in progress after k splits,
-  -- and the next split changes nothing, then the next split is the last one. So refinement makes exactly k + 1 splits.
+  -- Refinement is in progress after k splits if each of the first k splits has changed something (`Underway`). If
+  -- refinement is in progress after k splits, and the next split changes nothing, then the next split is the last one.
+  -- So refinement makes exactly k + 1 splits.
   pub underway_done : (k : ℕ) (old new : ℕ → ℕ) → Underway rel A k old → Split rel A old new → SameBlocks A old new
       → Turns rel A (suc k)
   underway_done k old new h split same =
@@ -82,8 +84,8 @@ module _ (rel : Relation) (A : System) (sys : IsSystem A) where
         | no apart ↦ turns_from left (suc k) new.0 (grown_more k old new.0 h new.1 apart) (omega (arith, room))
       ]
 
-  -- Some split is the first one that changes nothing. The number of splits up to and including this split is at most
-  -- the number of states.
+  -- There is a first split that changes nothing. The number of splits up to and including this split is at most the
+  -- number of states.
   pub turns_found : (m : ℕ) × Turns rel A m × (m ≤ A.states)
   turns_found = turns_from A.states 0 (λ s. 0) (grown_begun (λ s. 0) (λ s t ls lt. refl)) (omega arith)
 
@@ -95,7 +97,7 @@ module _ (rel : Relation) (A : System) (sys : IsSystem A) where
         | inr o ↦ absurd (h.changed turns_found.0 o turns_found.1.last)
       ]
 
--- If s is bisimilar to some state of B, then s is a state of A.
+-- If `Bisimilar` holds for the number s in the system A and some state of the system B, then s is a state of A.
 bisimilar_below : (rel : Relation) (A B : System) (s x : ℕ) → Bisimilar rel A s B x → s < A.states
 bisimilar_below rel A B s x (pairs, bisimulation, related) = (bisimulation.states s x related).0
 

@@ -22,10 +22,10 @@ module _ (A : System) (sys : IsSystem A) (old new : ℕ → ℕ) (refines : Refi
       let ends = step_below A sys x internal y r.0 in
       (r.0, refines y x ends.1 ends.0 r.1))
 
-  -- Let X be the set of the states that s reaches by steps that are inert after the split. Let Y be the set of the
-  -- targets of all steps that lead from states of X and were inert before the split. Suppose that each state of Y
-  -- shares a block with s after the split. If all steps of a path from s were inert before the split, then they are
-  -- inert after the split.
+  -- Let X be the set of the states that the state s reaches by steps that are inert after the split. Consider all steps
+  -- that lead from states in X and were inert before the split, and let Y be the set of their targets. Suppose that
+  -- each state of Y shares a block with s after the split. If all steps of a path from s were inert before the split,
+  -- then they are inert after the split.
   path_is : (s u : ℕ) → ((x y : ℕ) → Leads (Inert A new) s x → Inert A old x y → new y ≡ new s)
       → Leads (Inert A old) s u → Leads (Inert A new) s u
   path_is s u stays way =
@@ -33,9 +33,9 @@ module _ (A : System) (sys : IsSystem A) (old new : ℕ → ℕ) (refines : Refi
       (λ x y r h. leads_on (Inert A new) s x y h (r.0, stays x y h r ∙ sym (inert_same A new s x h))) s u way
       (leads_here (Inert A new) s)
 
-  -- Suppose that s reaches u by steps that are inert after the split, and that u has a step that was not inert before
-  -- the split. Then the signature of s after the split contains the pair of this step: its label, and the block of its
-  -- target after the split.
+  -- Suppose that the state s reaches the state u by steps that are inert after the split, and that u has a step that
+  -- was not inert before the split. Then the signature of s after the split contains the pair of this step: its label,
+  -- and the block of its target after the split.
   shown_now : (s u : ℕ) (a : List ℕ) (t : ℕ) → s < A.states → Leads (Inert A new) s u → Step A u a t
       → ¬ ((a ≡ internal) × (old t ≡ old s)) → Signature Branching A new s a (new t)
   shown_now s u a t ls way step shows =
@@ -91,8 +91,8 @@ module _ (A : System) (sys : IsSystem A) (old new : ℕ → ℕ) (refines : Refi
 -- blocks (blocks with one state), which may be left out.
 module _ (A : System) (sys : IsSystem A) (blocks : ℕ → ℕ) (first_new : ℕ)
     (active : ℕ → Type 0) (looks : AreEnoughToProcess A blocks first_new active) where
-  -- The active states are the states that the round processes. Suppose that s is in an old block, which existed before
-  -- the split, and that a path of inert steps leads from s to an active state. Then s is active, too.
+  -- The active states are the states that the round processes. Suppose that the state s is in an old block, which
+  -- existed before the split, and that a path of inert steps leads from s to an active state. Then s is active, too.
   found_back : (s : ℕ) (us : List ℕ) (u : ℕ) → blocks s < first_new → Along (Inert A blocks) s us u → active u
       → active s
   found_back s [] u l here found = subst active (sym here) found
@@ -110,8 +110,9 @@ module _ (A : System) (sys : IsSystem A) (blocks : ℕ → ℕ) (first_new : ℕ
     | inr only ↦ inr (subst (IsOnlyMember A blocks) (sym (only s ls (sym (inert_same A blocks s u way)))) only)
   ]
 
-  -- `GivesNew` holds under two conditions. First, the signature of s contains the pair (label, target block) of the
-  -- transition e. Second, this block is new, which means that its ID is at least `first_new`.
+  -- `GivesNew` holds if both of the following conditions hold. First, the signature of the state s contains the pair
+  -- (label, target block) of the transition e. Second, this block is new, which means that its ID is at least
+  -- `first_new`.
   abbrev GivesNew : ℕ → Transition → Type 0
   GivesNew s e = Signature Branching A blocks s e.label (blocks e.target) × (first_new ≤ blocks e.target)
 
@@ -119,8 +120,8 @@ module _ (A : System) (sys : IsSystem A) (blocks : ℕ → ℕ) (first_new : ℕ
   gives_new_decided s e =
       both (signature_decided A blocks Branching sys s e.label (blocks e.target)) (at_least first_new (blocks e.target))
 
-  -- If no transition contributes a pair with a new block ID to the signature of s, then no block ID in this signature
-  -- is new.
+  -- If no transition contributes a pair with a new block ID to the signature of the state s, then no block ID in this
+  -- signature is new.
   shows_old : (s : ℕ) → ¬ ((e : Transition) × Contains A.transitions e × GivesNew s e)
       → (a : List ℕ) (b : ℕ) → Signature Branching A blocks s a b → b < first_new
   shows_old s none a b (u, t, way, step, at, shows) = elim (cases_lt b first_new) [

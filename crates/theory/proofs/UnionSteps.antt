@@ -9,9 +9,9 @@ use Rattle.theory.specs.Union.{shifted, union_of}
 use Rattle.theory.proofs.Paths.{step_below}
 use Rattle.theory.proofs.Embeddings.{Embeds}
 
--- Let f be a function. If the list xs contains x, then the list that results from applying f to each element of xs
--- contains f x. The next lemma states the converse: every element of the resulting list is f x for some element x of
--- xs.
+-- Let f be a function. If the list xs contains the element x, then the list that results from applying f to each
+-- element of xs contains f x. The next lemma states the converse: every element of the resulting list is f x for some
+-- element x of xs.
 contains_image : {X Y : Type 0} (f : X → Y) (xs : List X) (x : X) → Contains xs x → Contains (map f xs) (f x)
 contains_image f xs x c = (c.0, omega (arith, c.1, length-map xs f), get_or-map f xs c.0 x (f x) c.1 ∙ ap f c.2)
 
@@ -42,8 +42,9 @@ module _ (A B : System) where
             B.transitions sys'.transitions));
       }
 
-  -- `OfRight` holds if the step from s to t with the label a is the image of a transition of B in the union. The number
-  -- of states of A was added to the source and to the target of this transition of B.
+  -- `OfRight` holds if the step with the label a from the state s to the state t is the image of a transition of B in
+  -- the union. States are numbers, and the number of states of A was added to the source and to the target of this
+  -- transition of B.
   abbrev pub OfRight : ℕ → List ℕ → ℕ → Type 0
   OfRight s a t =
       (e : Transition) × Contains B.transitions e × (shifted A.states e ≡ record { source = s; label = a; target = t })
@@ -67,7 +68,8 @@ module _ (A B : System) where
       Contains-append_right A.transitions (map (shifted A.states) B.transitions) (shifted A.states e)
       (contains_image (shifted A.states) B.transitions e step)
 
-  -- Each of the systems A and B is embedded in the union of A and B (`Embeds`).
+  -- Each of the systems A and B is embedded in the union of A and B (`Embeds`): each state of A or B has an image in
+  -- the union, and the steps of the state correspond to the steps of the image.
   pub embeds_left : Embeds A (union_of A B) (λ s. s)
   embeds_left = record {
     below = λ s l. omega (arith, l);

@@ -1,5 +1,5 @@
--- Defines when two systems have the same transitions, except for the order of the transitions and the number of their
--- repetitions.
+-- Defines when two systems have the same first state, the same number of states, and the same transitions. The order of
+-- the transitions, and how often a transition is repeated, do not matter.
 use Rattle.std.specs.Prelude.{◌≡◌, ◌↔◌, ℕ, List}
 use Rattle.theory.specs.System.{System, Step}
 

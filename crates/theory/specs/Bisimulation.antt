@@ -6,17 +6,17 @@ use Rattle.theory.specs.declared.relation.Relation.{Relation}
 use Rattle.theory.specs.declared.relation.Relation.TheVariants.{Strong as strong, Branching as branching}
 
 -- Let R be a relation between the states of A and the states of B. `StronglyMatches` holds if the state t of B matches
--- each step of the state s of A: B has a step from t with the same label, and R relates the targets of the two steps
--- (Milner 1989).
+-- each step of the state s of A. This means that B has a step from t with the same label, and that R relates the
+-- targets of the two steps (Milner 1989).
 abbrev pub StronglyMatches : System → System → (ℕ → ℕ → Type 0) → ℕ → ℕ → Type 0
 StronglyMatches A B R s t =
     (a : List ℕ) (s' : ℕ) → Step A s a s' → (t' : ℕ) × Step B t a t' × R s' t'
 
 -- Let R be a relation between the states of A and the states of B. `BranchingMatches` holds if the state s of B matches
--- each step of the state r of A in the sense of branching bisimulation (van Glabbeek and Weijland 1996). A step from r
--- to r' with the label a can be matched in two ways. In the first case, a is the internal label, and R relates r' to s.
--- In the second case, B has a silent path (a path of internal steps) from s to some state s1, and a step with the label
--- a from s1 to some state s'. R must then relate r to s1, and r' to s'.
+-- each step of the state r of A in the sense of branching bisimulation (van Glabbeek and Weijland 1996). A step with
+-- the label a from r to the state r' is matched if a is the internal label and R relates r' to s. The step is also
+-- matched if B has a silent path (a path of internal steps) from s to some state s1, and a step with the label a from
+-- s1 to some state s'. The relation R must then relate r to s1, and r' to s'.
 abbrev pub BranchingMatches : System → System → (ℕ → ℕ → Type 0) → ℕ → ℕ → Type 0
 BranchingMatches A B R r s =
     (a : List ℕ) (r' : ℕ) → Step A r a r' →
@@ -28,16 +28,18 @@ abbrev pub Matches : Relation → System → System → (ℕ → ℕ → Type 0)
 Matches strong A B R s t = StronglyMatches A B R s t
 Matches branching A B R s t = BranchingMatches A B R s t
 
--- `Pairs` is the relation that the list `pairs` defines: it relates s to t if the list contains the pair (s, t).
+-- `Pairs` is the relation that the list `pairs` defines. This relation relates the state s to the state t if the list
+-- contains the pair (s, t).
 abbrev pub Pairs : List (ℕ × ℕ) → ℕ → ℕ → Type 0
 Pairs pairs s t = Contains pairs (s, t)
 
--- `Converse` is the converse of the relation R: it relates t to s if R relates s to t.
+-- `Converse` is the converse of the relation R. The converse relates the state t to the state s if R relates s to t.
 abbrev pub Converse : (ℕ → ℕ → Type 0) → ℕ → ℕ → Type 0
 Converse R t s = R s t
 
--- `IsBisimulation` holds if R is a bisimulation between A and B. There are two conditions. First, if R relates s to t,
--- then s is a state of A, and t is a state of B. Second, any two states that R relates match each other's steps.
+-- `IsBisimulation` holds if R is a bisimulation between A and B. This means that both of the following conditions hold.
+-- First, if R relates the number s to the number t, then s is a state of A, and t is a state of B. Second, any two
+-- states that R relates match each other's steps.
 pub record IsBisimulation (rel : Relation) (A B : System) (R : ℕ → ℕ → Type 0) : Type 0 where
   pub states : (s t : ℕ) → R s t → (s < A.states) × (t < B.states)
   pub forth : (s t : ℕ) → R s t → Matches rel A B R s t

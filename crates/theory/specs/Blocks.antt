@@ -6,12 +6,13 @@ use Rattle.theory.specs.System.{System, Step, Internal, Silent, Leads, internal}
 use Rattle.theory.specs.declared.relation.Relation.{Relation}
 use Rattle.theory.specs.declared.relation.Relation.TheVariants.{Strong, Branching}
 
--- `Inert` holds if an inert step leads from s to t: the step is internal, and s and t are in the same block.
+-- `Inert` holds if an inert step leads from the state s to the state t: the step is internal, and s and t are in the
+-- same block.
 abbrev pub Inert : System → (ℕ → ℕ) → ℕ → ℕ → Type 0
 Inert A blocks s t = Internal A s t × (blocks t ≡ blocks s)
 
 -- `Signature` holds if the signature of the state s contains the pair (a, b) of a label and a block. For strong
--- bisimilarity, this means that a step with the label a leads from s to a state in b. For branching bisimilarity, it
+-- bisimilarity, this means that a step with the label a leads from s to a state in b. For branching bisimilarity, this
 -- means that a step with the label a leads from some state u to a state in b. The state s must reach u by a path of
 -- inert steps, and the step from u must not be inert.
 abbrev pub Signature : Relation → System → (ℕ → ℕ) → ℕ → List ℕ → ℕ → Type 0
@@ -42,8 +43,8 @@ abbrev pub Stable : Relation → System → (ℕ → ℕ) → Type 0
 Stable rel A blocks = EachTwo A (λ s t. blocks s ≡ blocks t → SameSignature rel A blocks s t)
 
 -- For branching bisimilarity, `Kept` holds if the blocks are closed under silent paths, which are paths of internal
--- steps. This means: if a silent path begins and ends in a block, all of its states are in this block. For strong
--- bisimilarity, `Kept` always holds.
+-- steps. This means that, if a silent path begins and ends in a block, all states of the path are in this block. For
+-- strong bisimilarity, `Kept` always holds.
 abbrev pub Kept : Relation → System → (ℕ → ℕ) → Type 0
 Kept Strong A blocks = Unit {0}
 Kept Branching A blocks =
@@ -72,8 +73,8 @@ pub record Turns (rel : Relation) (A : System) (k : ℕ) : Type 0 where
   pub last : ChangesNothing rel A k
   pub least : (j : ℕ) → j < k → ¬ ChangesNothing rel A j
 
--- `Underway` holds if refinement is in progress after k splits. There are two conditions. First, `blocks` is the
--- partition after k splits. Second, each of these splits has changed something.
+-- `Underway` holds if refinement is in progress after k splits. This means that both of the following conditions hold.
+-- First, `blocks` is the partition after k splits. Second, each of these splits has changed something.
 pub record Underway (rel : Relation) (A : System) (k : ℕ) (blocks : ℕ → ℕ) : Type 0 where
   pub after : After rel A k blocks
   pub changed : (j : ℕ) → j ≤ k → ¬ ChangesNothing rel A j

@@ -33,9 +33,9 @@ abbrev pub IsLeader : Relation → System → ℕ → Type 0
 IsLeader rel A l = (s : ℕ) × Reachable A s × Leader rel A s l
 
 -- The class number of a reachable state s is the quotient state that represents s. `Number` holds if n is the class
--- number of s. The leader of a state is the state that represents its class. If the leader of s is the first state, n
--- is 0. Otherwise, n is 1 plus the number of leaders that are smaller than the leader of s and differ from the first
--- state.
+-- number of s. The leader of a state is the state that represents its class. States are numbers. If the leader of s is
+-- the first state, n is 0. Otherwise, n is 1 plus the number of leaders that are less than the leader of s and differ
+-- from the first state.
 abbrev pub Number : Relation → System → ℕ → ℕ → Type 0
 Number rel A s n =
     (l : ℕ) × Leader rel A s l
@@ -48,9 +48,9 @@ abbrev pub IsDropped : Relation → Transition → Type 0
 IsDropped Strong e = ⊥
 IsDropped Branching e = (e.label ≡ internal) × (e.source ≡ e.target)
 
--- `ShowsNothing` holds if the step from s to t with the label a is inert with respect to bisimilarity. For branching
--- bisimilarity, this means that a is the internal label and that s and t are bisimilar. For strong bisimilarity, no
--- step is inert.
+-- `ShowsNothing` holds if the step with the label a from the state s to the state t is inert with respect to
+-- bisimilarity. For branching bisimilarity, this means that a is the internal label and that s and t are bisimilar. For
+-- strong bisimilarity, no step is inert.
 abbrev pub ShowsNothing : Relation → System → ℕ → List ℕ → ℕ → Type 0
 ShowsNothing Strong A s a t = ⊥
 ShowsNothing Branching A s a t = (a ≡ internal) × Bisimilar Branching A s A t
@@ -62,19 +62,19 @@ abbrev pub IsQuotientStep : Relation → System → Transition → Type 0
 IsQuotientStep rel A e =
     (s t : ℕ) × Reachable A s × Step A s e.label t × Number rel A s e.source × Number rel A t e.target
 
--- `Quotient` holds if Q is the quotient of A. There are three conditions. First, the number of states of Q is the
--- number of leaders, which are the states that represent the classes of bisimilar states. Second, the first state of Q
--- is 0. Third, the list of transitions of Q contains exactly once each transition that represents a step of A
--- (`IsQuotientStep`), except for the transitions that the quotient leaves out (`IsDropped`). The list contains no other
--- transitions.
+-- `Quotient` holds if Q is the quotient of A. This means that all three of the following conditions hold. First, the
+-- number of states of Q is the number of leaders, which are the states that represent the classes of bisimilar states.
+-- Second, the first state of Q is 0. Third, the list of transitions of Q contains exactly once each transition that
+-- represents a step of A (`IsQuotientStep`), except for the transitions that the quotient leaves out (`IsDropped`). The
+-- list contains no other transitions.
 pub record Quotient (rel : Relation) (A Q : System) : Type 0 where
   pub states : HowMany (IsLeader rel A) Q.states
   pub first : Q.first ≡ 0
   pub transitions : (e : Transition) → Contains Q.transitions e ↔ (IsQuotientStep rel A e × ¬ IsDropped rel e)
   pub once : AllPairs (λ e f. e ≢ f) Q.transitions
 
--- `allowance` is an upper bound on the number of visits (counted reads of transitions) that minimising a system may
--- make. The system has n states and m transitions, and its refinement takes r rounds.
+-- `allowance` is an upper bound on the number of visits (reads of transitions that the meter counts) that minimising a
+-- system may make. The system has n states and m transitions, and its refinement takes r rounds.
 abbrev pub allowance : Relation → ℕ → ℕ → ℕ → ℕ
 allowance Strong n m r = (r + 2) * m
 allowance Branching n m r = (r * n + 2) * m

@@ -4,8 +4,8 @@ use Rattle.std.specs.Prelude.{◌≡◌, ℕ, ◌<◌, ◌≤◌, List, [], ◌�
 use Rattle.std.specs.List.{All, Contains, list_any}
 use Rattle.std.specs.Str.{bytes_eq}
 
--- `IsLabel` holds if the label a is valid: it has 1 to 8000 bytes, and each byte is a printable ASCII character. The
--- space and the quotation mark are printable characters.
+-- `IsLabel` holds if the label a is valid: it consists of 1 to 8000 bytes, and each byte is a printable ASCII
+-- character. The space and the quotation mark are printable characters.
 pub record IsLabel (a : List ℕ) : Type 0 where
   pub not_empty : 1 ≤ length a
   pub short : length a ≤ 8000
@@ -21,14 +21,15 @@ pub record Transition : Type 0 where
   pub label : List ℕ
   pub target : ℕ
 
--- A system has a first state, a number of states, and a list of transitions. The list may contain a transition several
--- times.
+-- A system consists of a first state, a number of states, and a list of transitions. The list may contain a transition
+-- several times.
 pub record System : Type 0 where
   pub first : ℕ
   pub states : ℕ
   pub transitions : List Transition
 
--- `IsAmong` holds if the source and the target of the transition e are less than n, and the label of e is valid.
+-- States are numbers. `IsAmong` holds if the source and the target of the transition e are less than the number n, and
+-- the label of e is valid.
 pub record IsAmong (n : ℕ) (e : Transition) : Type 0 where
   pub source : e.source < n
   pub label : IsLabel e.label
@@ -41,32 +42,32 @@ pub record IsSystem (A : System) : Type 0 where
   pub first : A.first < A.states
   pub transitions : All (IsAmong A.states) A.transitions
 
--- `Step` holds if A has a step from s to t with the label a (Milner 1989).
+-- `Step` holds if the system A has a step with the label a from the state s to the state t (Milner 1989).
 abbrev pub Step : System → ℕ → List ℕ → ℕ → Type 0
 Step A s a t = Contains A.transitions (record { source = s; label = a; target = t })
 
--- `Internal` holds if A has an internal step from s to t.
+-- `Internal` holds if the system A has an internal step from the state s to the state t.
 abbrev pub Internal : System → ℕ → ℕ → Type 0
 Internal A s t = Step A s internal t
 
--- `AnyStep` holds if A has a step from s to t with some label.
+-- `AnyStep` holds if the system A has a step from the state s to the state t, with any label.
 abbrev pub AnyStep : System → ℕ → ℕ → Type 0
 AnyStep A s t = (a : List ℕ) × Step A s a t
 
 -- A path of a relation R is a sequence of states such that R relates each state to the next state. `Along` holds if the
--- list has the states of a path of R from s to t, except for the first state s. For the empty list, s and t must be
--- equal.
+-- list contains the states of a path of R from the state s to the state t, except for s itself at the beginning. For
+-- the empty list, s and t must be equal.
 abbrev pub Along : (ℕ → ℕ → Type 0) → ℕ → List ℕ → ℕ → Type 0
 Along R s [] t = s ≡ t
 Along R s (u ∷ us) t = R s u × Along R u us t
 
 -- A path of a relation R is a sequence of states such that R relates each state to the next state. `Leads` holds if
--- some path of R leads from s to t. If s and t are equal, the empty path leads from s to t.
+-- some path of R leads from the state s to the state t. If s and t are equal, the empty path leads from s to t.
 abbrev pub Leads : (ℕ → ℕ → Type 0) → ℕ → ℕ → Type 0
 Leads R s t = (us : List ℕ) × Along R s us t
 
--- `Silent` holds if a silent path, which is a path of internal steps, leads from s to t (van Glabbeek and Weijland
--- 1996).
+-- A silent path is a path of internal steps. `Silent` holds if a silent path leads from the state s to the state t (van
+-- Glabbeek and Weijland 1996).
 abbrev pub Silent : System → ℕ → ℕ → Type 0
 Silent A s t = Leads (Internal A) s t
 

@@ -16,14 +16,14 @@ Refines A old new = EachTwo A (λ s t. new s ≡ new t → old s ≡ old t)
 abbrev pub KeepsBlockIds : System → (ℕ → ℕ) → (ℕ → ℕ) → ℕ → Type 0
 KeepsBlockIds A old new first_new = (s : ℕ) → s < A.states → new s < first_new → new s ≡ old s
 
--- A block ID is new if it is at least `first_new`. `MentionsOnlyOld` holds under two conditions. First, the block ID of
--- the state s is not new. Second, no block ID in the branching signature of s is new.
+-- A block ID is new if it is at least `first_new`. `MentionsOnlyOld` holds if both of the following conditions hold.
+-- First, the block ID of the state s is not new. Second, no block ID in the branching signature of s is new.
 abbrev pub MentionsOnlyOld : System → (ℕ → ℕ) → ℕ → ℕ → Type 0
 MentionsOnlyOld A blocks first_new s = (blocks s < first_new)
     × ((a : List ℕ) (b : ℕ) → Signature Branching A blocks s a b → b < first_new)
 
--- `KeepsSignature` holds if the branching signature of the state s with respect to the partition `old` equals its
--- branching signature with respect to the partition `new`.
+-- `KeepsSignature` holds if the state s has the same branching signature with respect to the partition `old` as with
+-- respect to the partition `new`.
 abbrev pub KeepsSignature : System → (ℕ → ℕ) → (ℕ → ℕ) → ℕ → Type 0
 KeepsSignature A old new s = (a : List ℕ) (b : ℕ) → Signature Branching A old s a b ↔ Signature Branching A new s a b
 
@@ -36,10 +36,10 @@ abbrev pub IsOnlyMember : System → (ℕ → ℕ) → ℕ → Type 0
 IsOnlyMember A blocks s = (t : ℕ) → t < A.states → blocks t ≡ blocks s → t ≡ s
 
 -- The active states are the states that a round processes. `AreEnoughToProcess` holds if all states whose signatures
--- may have changed are active. There are three kinds of such states. The first kind are the states of new blocks, which
--- are blocks whose IDs are at least `first_new`. The second kind are the sources of steps to new blocks. The third kind
--- are the sources of inert steps that lead to an active state of an old block. A state of the first or of the second
--- kind need not be active if no other state is in its block.
+-- may have changed are active. There are three kinds of such states. The first kind consists of the states of new
+-- blocks, which are blocks whose IDs are at least `first_new`. The second kind consists of the sources of steps to new
+-- blocks. The third kind consists of the states from which an inert step leads to an active state in a block that is
+-- not new. A state of the first or of the second kind need not be active if no other state is in its block.
 pub record AreEnoughToProcess (A : System) (blocks : ℕ → ℕ) (first_new : ℕ) (active : ℕ → Type 0) : Type 0 where
   pub new : (t : ℕ) → t < A.states → first_new ≤ blocks t → active t ⊎ IsOnlyMember A blocks t
   pub sources : (s : ℕ) (a : List ℕ) (t : ℕ) → Step A s a t → first_new ≤ blocks t → active s ⊎ IsOnlyMember A blocks s

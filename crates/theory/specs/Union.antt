@@ -2,7 +2,7 @@
 use Rattle.std.specs.Prelude.{ℕ, ◌+◌, ◌++◌, map}
 use Rattle.theory.specs.System.{System, Transition}
 
--- `shifted` is the transition e with the number n added to its source and to its target.
+-- States are numbers. `shifted` is the transition e with the number n added to its source and to its target.
 abbrev pub shifted : ℕ → Transition → Transition
 shifted n e = record { source = n + e.source; label = e.label; target = n + e.target }
 

@@ -6,8 +6,9 @@ ghost use Rattle.theory.specs.System.{System, IsSystem, Internal};
 ghost use Rattle.theory.specs.Bisimulation.{Strong, Branching, Bisimilar, Equivalent};
 ghost use Rattle.theory.specs.declared.relation.Relation.{Relation};
 
-/// If s in the system A is bisimilar to t in the system B, then s is a state of A, and t is a state of B. Strong and
-/// branching bisimilarity are symmetric and transitive, also for states of different systems.
+/// If `Bisimilar` holds for the number s in the system A and the number t in the system B, then s is a state of A, and
+/// t is a state of B. Strong and branching bisimilarity are symmetric and transitive, both for states of one system and
+/// for states of different systems.
 pub fn bisimilarity_goes_across()
     ensures states { (rel : Relation) (A B : System) (s t : ℕ) → Bisimilar rel A s B t →
         (s < A.states) × (t < B.states) }

@@ -37,8 +37,8 @@ pub fn inert_steps_stay()
 {}
 
 /// The branching signature of a state contains the pair (label, target block) of each step of the state that is not
-/// inert, and all pairs in the signatures of the states that its inert steps lead to. It contains no other pairs. If
-/// two states reach each other by inert steps, their signatures are equal.
+/// inert. The signature also contains all pairs in the signatures of the states to which inert steps of the state lead,
+/// and no other pairs. If two states reach each other by inert steps, their signatures are equal.
 pub fn inert_steps_pass_signatures_back()
     ensures own { (A : System) (blocks : ℕ → ℕ) (s : ℕ) (a : List ℕ) (t : ℕ) → Step A s a t →
         ¬ ((a ≡ internal) × (blocks t ≡ blocks s)) → Signature Branching A blocks s a (blocks t) }
@@ -59,8 +59,8 @@ pub fn inert_steps_pass_signatures_back()
 
 /// For branching bisimilarity, an inert step is an internal step between bisimilar states. For strong bisimilarity, no
 /// step is inert. Let s and t be bisimilar states, and let s have no inert steps. Suppose that a step of t with the
-/// label a leads to u, and that this step is not inert. Then some step of s with the label a leads to a state that is
-/// bisimilar to u.
+/// label a leads to the state u, and that this step is not inert. Then some step of s with the label a leads to a state
+/// that is bisimilar to u.
 pub fn states_without_inert_steps_show_all()
     ensures { (rel : Relation) (A : System) (s t : ℕ) (a : List ℕ) (u : ℕ) → IsSystem A →
         Bisimilar rel A s A t →

@@ -1,4 +1,4 @@
-//! The two kinds of bisimilarity, as a type.
+//! Defines a type whose values are the two kinds of bisimilarity.
 
 /// The relation modulo which systems are minimised or compared.
 #[derive(Clone, Copy, Debug, PartialEq, Eq)]

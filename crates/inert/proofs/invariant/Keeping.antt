@@ -1,6 +1,6 @@
 -- A move of the search is, for example, the push of a state or the completion of a strongly connected component.
 -- Suppose that a move does not change the states below some index of the stack. These lemmas show that the invariant of
--- the search then still holds for these states after the move. The move may also intern more signatures.
+-- the search then still holds for these states after the move. The move may intern further signatures.
 use Rattle.std.proofs.Common.{◌≡◌, ◌⊎◌, ◌↔◌, ℕ, ◌<◌, ◌≤◌, List, length, slice_index, inl, inr, arith, rules, get_or}
 use Rattle.std.specs.List.{All}
 use Rattle.lts.specs.Lts.{Triple, source_of, place_at}
@@ -23,12 +23,13 @@ AreSound u signatures w = (j : ℕ) → j < length w.items → IsSound u signatu
 
 -- The stack is divided into components, which are strongly connected sets of states. Each component collects items:
 -- pairs (label ID, block) and signature IDs. The root of a component is its first state on the stack. `KeepsStack`
--- compares the data of the search before a move (w) and after the move (`new`). It holds under five conditions. First,
--- the move changes neither the states below the index n of the stack nor their statuses. Second, if a component of w
--- has a state below the index n, all of its states are below the index n. Third, the move does not change the items
--- that these components have collected. Fourth, each root of `new` is a root of w too, or it is at the index n of the
--- stack or above and the items of its component come after all items of w. Fifth, each state that is completed in w is
--- completed in `new` with the same signature ID.
+-- compares the data of the search before a move (w) and after the move (`new`). It holds if all five of the following
+-- conditions hold. First, the move changes neither the states below the index n of the stack nor their statuses.
+-- Second, if a component of w contains a state below the index n, all states of this component are below the index n.
+-- Third, the move does not change the items that the components below the index n have collected. Fourth, each root of
+-- `new` is a root of w, or its index on the stack is at least n and the items of its component come after all items of
+-- w. Fifth, each state that is completed in w is completed in `new` with the same signature ID. The number n must be at
+-- most the number of states on the stack of w.
 pub record KeepsStack (w new : Search) (n : ℕ) : Type 0 where
   pub within : n ≤ length w.stack
   pub states : (p : ℕ) → p < n → slice_index new.stack p ≡ slice_index w.stack p
@@ -89,9 +90,9 @@ module _ {u : Under} {signatures lists' : List (List (ℕ × ℕ))} (grow : Grow
 
   -- Suppose that a move of the search does not change the states below the index n of the stack. Let s be one of these
   -- states, and let e be a transition of s. Suppose that two conditions hold. First, if e was still to be read before
-  -- the move, then after the move e is still to be read or has been processed. Second, if the search had gone from s to
-  -- some state and had not yet returned from it before the move, then it has followed an inert step from s to this
-  -- state after the move (`IsFollowed`). Then e is still to be read or has been processed after the move.
+  -- the move, then after the move e is still to be read or has been processed. Second, if before the move the search
+  -- had gone from s to a state and had not yet returned from this state, then after the move the search has followed an
+  -- inert step from s to this state (`IsFollowed`). Then e is still to be read or has been processed after the move.
   pub accounted_still : (p k : ℕ) → p < n → k < length u.l.places
       → source_of (place_at u.l.places k) ≡ slice_index new.stack p
       → (IsToBeRead w p k → IsToBeRead new p k ⊎ IsHandled u lists' new p (place_at u.l.places k))
@@ -102,8 +103,9 @@ module _ {u : Under} {signatures lists' : List (List (ℕ × ℕ))} (grow : Grow
 
   -- The stack is divided into components, which are strongly connected sets of states. Each component collects items:
   -- pairs (label ID, block) and signature IDs. Suppose that a move of the search does not change the states below the
-  -- index n of the stack. Suppose also that an item belongs to a component of these states. Then, after the move, the
-  -- signature of some state of this component still contains all pairs that the item represents (`IsSound`).
+  -- index n of the stack. Consider an item, and suppose that all states of the component that has collected this item
+  -- are below the index n. Then, after the move, the signature of some state of this component still contains all pairs
+  -- that the item represents (`IsSound`).
   pub sound_still : (j : ℕ) → j < length w.items → n ≤ length new.stack →
       ((p : ℕ) → p < length w.stack → BelongsTo w.roots j p → p < n) → IsSound u lists' new j
   sound_still j low room below = let (p, lp, of, all) = walks.sound j low in let h = below p lp of in

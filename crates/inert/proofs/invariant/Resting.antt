@@ -14,8 +14,8 @@ use Rattle.inert.proofs.parts.Tops.{no_root}
 use Rattle.inert.specs.SearchMoves.{IsAtRest}
 use Rattle.inert.proofs.invariant.Standing.{frames_some, root_low}
 
--- If the number s is at least the number of states, so that there is no state s, then the cached signature ID for s is
--- 0.
+-- States are numbers. If the number s is at least the number of states, so that there is no state s, then the cached
+-- signature ID for s is 0.
 pub kept_past : (stages : List VisitState) (s : ℕ) → length stages ≤ s → slice_index (cached stages) s ≡ 0
 kept_past stages s past = get_or_past (cached stages) s 0 (omega (arith, past, length-map stages id_of))
 
@@ -37,16 +37,17 @@ module _ {active : List ℕ} {old w : Search} (woken : AreMarkedUnvisited old.st
   pub unvisited : (s : ℕ) → IsMember active s → stage_at w.stages s ≡ Unvisited
   unvisited s one = ap (stage_at w.stages) (sym one.2) ∙ woken.unvisited one.0 one.1
 
-  -- Each state has the status `Unvisited` or `Completed`. A number s that is not a state of the system has the status
-  -- `Unvisited` by default.
+  -- Each state has the status `Unvisited` or `Completed`. States are numbers, and a number s that is not a state of the
+  -- system has the status `Unvisited` by default.
   unless_finished : (s : ℕ) → (stage_at w.stages s ≡ Unvisited) ⊎ IsFinished w.stages s
   unless_finished s = let past = get_or_past w.stages s Unvisited in
       grind (arith, cases_lt s (length w.stages), past, others s, unvisited s)
 
-  -- The active states are the states that the round processes, and they are marked as unvisited. Suppose that each
-  -- state that is not active but shares a block with an active state has the correct cached signature ID, and that at
-  -- least one signature is interned. Then no search is in progress, and the invariant of the search holds, so that a
-  -- search can begin (`IsAtRest`).
+  -- The active states are the states that the round processes, and they are marked as unvisited. Suppose that at least
+  -- one signature is interned. Suppose also that each cached signature ID is the ID of an interned signature. If a
+  -- state is not active but shares a block with an active state, the cached ID of this state must be the ID of its
+  -- branching signature (`CachesBeside`). Then no search is in progress, and the invariant of the search holds
+  -- (`IsAtRest`). So a search can begin.
   pub woken_rests : {u : Under} {signatures : List (List (ℕ × ℕ))}
       → CachesBeside u.l u.blocks active signatures (cached old.stages) → 1 ≤ length signatures
       → IsAtRest u signatures w

@@ -19,8 +19,8 @@ pub pair_before : (laws : Laws) (u : Under) (s t : ℕ) (z : ℕ × ℕ) → Lea
     → HasPair Branching u.l u.blocks t z.0 z.1 → HasPair Branching u.l u.blocks s z.0 z.1
 pair_before laws u s t z tie has = (has.0, laws.path (system_of u.l) (slice_index u.blocks) s t _ z.1 tie has.1)
 
--- The list `stages` has the status of each state: unvisited, on the stack, or completed. If the status of each state on
--- the stack is `OnStack` with its index on the stack, then each state on the stack has an entry in this list.
+-- The list `stages` contains the status of each state: unvisited, on the stack, or completed. If the status of each
+-- state on the stack is `OnStack` with its index on the stack, then each state on the stack has an entry in this list.
 pub open_inside : (stages : List VisitState) (stack : List ℕ) → AreOpen stages stack
     → All (λ s. s < length stages) stack
 open_inside stages stack opened =
@@ -49,8 +49,8 @@ module _ {u : Under} {signatures : List (List (ℕ × ℕ))} {w : Search} (walks
   last_frame i low high = grind (arith, walks.frames.ascending i (length w.frames - 1) no_frame, low, high)
 
   -- Each frame belongs to a state on the stack, and records which outgoing transitions of this state are still to be
-  -- read. If all outgoing transitions of the state of the last frame were read, then none of these transitions is still
-  -- to be read according to the last frame.
+  -- read. If all outgoing transitions of the state to which the last frame belongs were read, then none of these
+  -- transitions is still to be read according to the last frame.
   pub none_ahead : HasRead w → (p k i : ℕ) → k < length u.l.places
       → source_of (place_at u.l.places k) ≡ slice_index w.stack p → i < length w.frames
       → i ≡ length w.frames - 1 → (frame_at w.frames i).height ≡ p → ¬ ((frame_at w.frames i).next ≤ k)
@@ -66,9 +66,9 @@ module _ {u : Under} {signatures : List (List (ℕ × ℕ))} {w : Search} (walks
   root_low i d h = search rules
 
   -- A component is a strongly connected set of states on the stack. The root of a component is its first state on the
-  -- stack, and the last component is at the top of the stack. No root is higher on the stack than the root of the last
-  -- component. No component has items, which are pairs (label ID, block) and signature IDs, that begin at a greater
-  -- index of the list of items than the items of the last component.
+  -- stack, and the last component is at the top of the stack. Each component collects items, which are pairs (label ID,
+  -- block) and signature IDs. No root is higher on the stack than the root of the last component. In the list of all
+  -- items, the items of no component begin at a greater index than the items of the last component.
   pub last_most : All (λ r. (r.height ≤ (last w.roots).height) × (r.items ≤ (last w.roots).items)) w.roots
   last_most i d h = grind (arith, walks.roots.ascending i (length w.roots - 1) d, get_or_default)
 

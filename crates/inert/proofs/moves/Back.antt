@@ -1,6 +1,6 @@
--- Lemmas about how the search goes back from a state whose outgoing transitions were all read. The frame of the state
--- is then popped. A component is a strongly connected set of states on the stack. If the state is the first state of a
--- component on the stack, this component is completed.
+-- Lemmas about how the search goes back from a state whose outgoing transitions were all read. The frame of the state,
+-- which records that no outgoing transition is still to be read, is then popped. A component is a strongly connected
+-- set of states on the stack. If the state is the first state of a component on the stack, this component is completed.
 use Rattle.std.proofs.Common.{◌≡◌, ◌≢◌, ℕ, ◌+◌, ◌-◌, ◌<◌, ◌≤◌, List, length, slice_index, sym, ◌∙◌, ap, inl, inr, rules}
 use Rattle.std.proofs.Common.{refl, arith, take, get_or, Contains}
 use Rattle.std.specs.List.{All}
@@ -27,7 +27,8 @@ use Rattle.inert.proofs.invariant.Standing.{root_low}
 use Rattle.inert.proofs.signatures.Exact.{exact}
 
 -- Each frame belongs to a state on the stack, and records which outgoing transitions of this state are still to be
--- read. Returns the data of the search w after its last frame was removed. The stack of states does not change.
+-- read. Returns the data that result from the data w of the search if the last frame is removed. The stack of states
+-- does not change.
 abbrev pub popped : Search → Search
 popped w = record w { frames = take (length w.frames - 1) w.frames }
 
@@ -40,7 +41,7 @@ module _ {u : Under} {signatures : List (List (ℕ × ℕ))} {w : Search} (walks
   popped_same i h = (omega (arith, popped_size, h), get_or-take (length w.frames - 1) w.frames i no_frame h)
 
   -- Each frame belongs to a state on the stack, and records which outgoing transitions of this state are still to be
-  -- read. Suppose that a state with a frame is below the state of the last frame on the stack. Then the state below
+  -- read. Suppose that a state with a frame is below the state of the last frame on the stack. Then this lower state
   -- still has a frame after the last frame was popped.
   popped_framed : (p : ℕ) → p < here w → (i : ℕ) × (i < length w.frames) × ((frame_at w.frames i).height ≡ p)
       → (i : ℕ) × (i < length (popped w).frames) × ((frame_at (popped w).frames i).height ≡ p)
@@ -91,22 +92,23 @@ module _ {u : Under} {signatures : List (List (ℕ × ℕ))} {w : Search} (walks
 
     -- A component is a strongly connected set of states on the stack. Each frame belongs to a state on the stack, and
     -- records which outgoing transitions of this state are still to be read. Suppose that all outgoing transitions of
-    -- the state of the last frame were read, and that this state is not the first state of a component on the stack.
-    -- Then the invariant of the search still holds after the last frame was removed (`GoesOn`).
+    -- the state to which the last frame belongs were read, and that this state is not the first state of a component on
+    -- the stack. Then the invariant of the search still holds after the last frame was removed (`GoesOn`).
     pub popped_on : GoesOn u signatures signatures w (popped w)
     popped_on = stays_on SearchInvariant-pop refl
 
 -- A component is a strongly connected set of states on the stack. Each frame belongs to a state on the stack, and
 -- records which outgoing transitions of this state are still to be read. These lemmas make three assumptions. First,
--- all outgoing transitions of the state of the last frame were read. Second, this state is the first state of a
--- component on the stack. Third, the last frame was then popped, and this component was completed (`Closes`).
+-- all outgoing transitions of the state to which the last frame belongs were read. Second, this state is the first
+-- state of a component on the stack. Third, the last frame was then popped, and this component was completed
+-- (`Closes`).
 module _ (laws : Laws) {u : Under} (lts : IsLts u.l) {before signatures : List (List (ℕ × ℕ))} {w new : Search}
     (walks : SearchInvariant u before w) (some : 0 < length w.frames) (read : HasRead w)
     (height : (last w.roots).height ≡ here w)
     (closes : Closes (last w.roots) before signatures (popped w) new) where
   -- A component is a strongly connected set of states on the stack. The component that is completed begins at the index
-  -- q of the stack. Its items, which are pairs (label ID, block) and signature IDs, begin at the index `c0` of the list
-  -- of items.
+  -- q of the stack. The items of this component, which are pairs (label ID, block) and signature IDs, begin at the
+  -- index `c0` of the list of items.
   abbrev q : ℕ
   q = (last w.roots).height
 
@@ -123,7 +125,7 @@ module _ (laws : Laws) {u : Under} (lts : IsLts u.l) {before signatures : List (
   few = (walks.roots.each (length w.roots - 1) no_root (last_low walks some)).within
 
   -- A component is a strongly connected set of states on the stack. Suppose that the component at the top of the stack
-  -- begins at the index q of the stack. After this component was completed, the stack has exactly q states.
+  -- begins at the index q of the stack. After this component was completed, exactly q states are on the stack.
   size : length new.stack ≡ q
   size = ap length closes.stack ∙ length-take-le q w.stack (omega (arith, low_q))
 
@@ -168,9 +170,9 @@ module _ (laws : Laws) {u : Under} (lts : IsLts u.l) {before signatures : List (
   each_item P old last j low = grind (arith, old j, last, item_new, no_item, low)
 
   -- A component is a strongly connected set of states on the stack. The root of a component is its first state on the
-  -- stack. Suppose that the last component is completed, so that its root is removed. Then each remaining root is at
-  -- the same index of the list of roots as before. Before the last component was completed, this root satisfied
-  -- `IsRoot` and came before the removed root.
+  -- stack. Suppose that the last component is completed, and that its root is therefore removed from the list of roots.
+  -- Then each remaining root is at the same index of the list of roots as before. Before the last component was
+  -- completed, this root satisfied `IsRoot` and came before the removed root.
   root_left : (i : ℕ) (d : Root) → i < length new.roots → (i < length w.roots)
       × (get_or new.roots i d ≡ get_or w.roots i d) × IsRoot w.frames w.items (get_or w.roots i d)
       × IsBefore (get_or w.roots i d) (last w.roots)
@@ -181,8 +183,9 @@ module _ (laws : Laws) {u : Under} (lts : IsLts u.l) {before signatures : List (
       grind (arith, h, closes.roots, length-take-le n w.roots, last, same, before, walks.roots.each i)
 
   -- A component is a strongly connected set of states on the stack. The root of a component is its first state on the
-  -- stack. Suppose that the last component of the search w is completed, so that its root is removed. If a property P
-  -- holds for each remaining root and for the removed root, it holds for each root of w.
+  -- stack. Suppose that the last component of the search w is completed, and that its root is therefore removed from
+  -- the list of roots. If a property P holds for each remaining root and for the removed root, it holds for each root
+  -- of w.
   root_back : (P : Root → Type 0) → All P new.roots → P (last w.roots) → All P w.roots
   root_back P all here = All-from_take P (length w.roots - 1) w.roots no_root (rw (← closes.roots) all)
       (λ i high low. let e : i ≡ length w.roots - 1 = omega (arith, high, low) in rw e here)
@@ -290,8 +293,8 @@ module _ (laws : Laws) {u : Under} (lts : IsLts u.l) {before signatures : List (
   }
 
   -- A component is a strongly connected set of states on the stack. Suppose that the component at the top of the stack
-  -- is completed. Then the invariant of the search still holds (`GoesOn`). The number of visits (counted reads of
-  -- transitions) that are still to be made and the number of unvisited states do not change.
+  -- is completed. Then the invariant of the search still holds (`GoesOn`). The number of visits (reads of transitions
+  -- that the meter counts) that are still to be made and the number of unvisited states do not change.
   pub closed : GoesOn u before signatures w new × (ahead u new ≡ ahead u w) × (unseen new.stages ≡ unseen w.stages)
   closed =
       let cut = rest-cut u.visited w.frames some read in

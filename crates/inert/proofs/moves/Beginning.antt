@@ -21,24 +21,25 @@ use Rattle.inert.proofs.moves.Forward.{entered_on}
 use Rattle.inert.proofs.moves.Reading.{Stays, reads_none, marked}
 use Rattle.inert.proofs.moves.Back.{popped, closed}
 
--- Returns the data of a search with an empty stack. The argument `stages` has the status of each state. The argument
--- `items` has the items that the search has collected. An item is a pair (label ID, block) or a signature ID.
+-- Returns the data of a search with an empty stack. The argument `stages` contains the status of each state. The
+-- argument `items` contains the items that the search has collected. An item is a pair (label ID, block) or a signature
+-- ID.
 abbrev pub collecting : List VisitState → List Item → Search
 collecting stages items = record (nothing stages) { items = items }
 
 -- An item is a pair (label ID, block) or a signature ID. Returns the data of a search that has collected the items
 -- `items`, and has pushed the state s as its first state. The frame of s records which transitions of s are still to be
--- read. These transitions are at the places (indices in the list of all transitions) from `next` up to but excluding
--- `end`.
+-- read. These transitions are at the places k (indices in the list of all transitions) with `next` <= k < `end`.
 abbrev pub framed : ℕ → ℕ → ℕ → List VisitState → List Item → Search
 framed s next end stages items = with_pushed s next end 0 (collecting stages items)
 
--- Let `old` be the data of the search before it began at the state s, and let w be its data now. The interned
--- signatures were `before` at that point, and are `signatures` now. The search has read the transitions of s at the
--- places (indices in the list of all transitions) from `start` up to but excluding k. `Begins` holds under three
--- conditions. First, the search has gone on from `old` to w (`GoesOn`). Second, s is not unvisited in w. Third, the
--- number of visits (counted reads) that the search had to make in `old` equals the number of visits that it still has
--- to make in w plus the number of visits that reading the transitions from `start` to k took.
+-- Let `old` be the data of the search when it begins at the state s, and let w be the data of the search at a later
+-- point. The interned signatures are `before` at the first point, and `signatures` at the later point. Between the two
+-- points, the search has read the transitions of s at the places j (indices in the list of all transitions) with
+-- `start` <= j < k. `Begins` holds if all three of the following conditions hold. First, the search has gone on from
+-- `old` to w (`GoesOn`). Second, s is not unvisited in w. Third, the number of visits (reads that the meter counts)
+-- that the search has to make from `old` on is the sum of two numbers: the number of visits that it has to make from w
+-- on, and the number of visits that reading these transitions of s took. The number k must be at least `start`.
 pub record Begins (u : Under) (before signatures : List (List (ℕ × ℕ))) (old : Search) (s start k : ℕ) (w : Search) :
     Type 0
   where
@@ -47,9 +48,10 @@ pub record Begins (u : Under) (before signatures : List (List (ℕ × ℕ))) (ol
     pub forward : start ≤ k
     pub less : ahead u w + price_between u.visited start k ≡ unread (remaining u) old.stages
 
--- Suppose that no search is in progress, and that the unvisited state s is then pushed with a frame for all of its
--- outgoing transitions. Then the invariant of the search still holds, and the number of visits (counted reads of
--- transitions) that the search has to make has not changed (`Begins`).
+-- A frame records which outgoing transitions of a state on the stack are still to be read. Suppose that no search is in
+-- progress, and that the unvisited state s is then pushed with a frame for all of its outgoing transitions. Then the
+-- invariant of the search still holds, and the number of visits (reads of transitions that the meter counts) that the
+-- search has to make has not changed (`Begins`).
 pub begins : {u : Under} {signatures : List (List (ℕ × ℕ))} {w : Search} {s start end : ℕ} → Laws
     → IsAtRest u signatures w → s < u.l.states → stage_at w.stages s ≡ Unvisited → IsRow u.l.places s start end
     → Begins u signatures signatures w s start start (framed s start end w.stages w.items)
@@ -76,10 +78,11 @@ module _ (laws : Laws) {u : Under} (lts : IsLts u.l) {signatures : List (List (�
     abbrev Next : Search → Type 0
     Next m = Begins u signatures signatures old s start (k + 1) m
 
-    -- A place is an index in the list of all transitions. Suppose that `Begins` holds for the first state s of the
-    -- search and for the place k. This means that the search has read the transitions of s before the place k. Suppose
-    -- also that s is on the stack with a frame for its transitions after the place k, and that the search then
-    -- processes the transition at the place k. Then `Begins` holds for the place k + 1.
+    -- A place is an index in the list of all transitions. A frame records which outgoing transitions of a state are
+    -- still to be read. Suppose that `Begins` holds for the first state s of the search and for the place k. This means
+    -- that the search has read the transitions of s before the place k. Suppose also that s is on the stack with a
+    -- frame for its transitions after the place k, and that the search then processes the transition at the place k.
+    -- Then `Begins` holds for the place k + 1.
     pub takes_framed : (step : Step) {m : Search} (enters : Bool) → Is step →
         HandlesStep u.l.places step (framed s (k + 1) end old.stages w.items) m enters → Next m
     takes_framed step enters is takes =
@@ -90,10 +93,11 @@ module _ (laws : Laws) {u : Under} (lts : IsLts u.l) {signatures : List (List (�
         let price = price_split u.visited start k (k + 1) begun.forward (omega arith) in
         grind (arith, on, begun.found, one.on.seen.unseen s, one.less, begun.less, begun.forward, price)
 
-    -- A place is an index in the list of all transitions. Suppose that the transition at the place k is not inert, or
-    -- that its target is completed. If the search processes this transition without pushing its first state s, two
-    -- facts hold. First, the stack is still empty. Second, if s were on the stack with a frame for its transitions
-    -- after the place k, `Begins` would hold for the place k + 1.
+    -- A place is an index in the list of all transitions. A frame records which outgoing transitions of a state are
+    -- still to be read. Suppose that the transition at the place k is not inert, or that its target is completed. If
+    -- the search processes this transition without pushing its first state s, two facts hold. First, the stack is still
+    -- empty. Second, if s were on the stack with a frame for its transitions after the place k, `Begins` would hold for
+    -- the place k + 1.
     module _ (none : stage_at old.stages s ≡ Unvisited) where
       abbrev Collects : Search → Type 0
       Collects m = (m ≡ collecting old.stages m.items) × Next (framed s (k + 1) end old.stages m.items)
@@ -111,8 +115,8 @@ module _ (laws : Laws) {u : Under} (lts : IsLts u.l) {signatures : List (List (�
           rw (new, same) (refl, takes_framed (Goes t) enters is (inr (inr (id, stage', refl, stay))))
 
   -- An item is a pair (label ID, block) or a signature ID. A signature ID represents all pairs of the signature with
-  -- this ID. These lemmas assume that all transitions of the first state s were read. They also assume that s is then
-  -- completed with a signature that has exactly the pairs that the collected items represent.
+  -- this ID. These lemmas assume that all transitions of the first state s were read. The lemmas also assume that s is
+  -- then completed with a signature that contains exactly the pairs that the collected items represent.
   module _ (over : end ≤ k) {lists' : List (List (ℕ × ℕ))} {id : ℕ}
       (listed : IsUnionOfItems w.items signatures lists' id)
       (low : s < length old.stages) where

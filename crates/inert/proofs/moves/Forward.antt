@@ -1,6 +1,6 @@
 -- Proves that the forward moves of the search preserve its invariant (`SearchInvariant`). There are four forward moves.
 -- First, the search collects an item, which is a pair (label ID, block) or a signature ID. Second, it merges
--- components, which are sets of states on the stack that inert transitions connect in both directions. Third, it pushes
+-- components, which are sets of states on the stack that can reach each other along inert transitions. Third, it pushes
 -- a state. Fourth, it marks a transition as read.
 use Rattle.std.proofs.Common.{◌≡◌, ◌≢◌, ℕ, ◌+◌, ◌<◌, List, length, slice_index, refl, inl, inr, arith, ◌-◌, ◌≤◌, rules}
 use Rattle.std.proofs.Common.{◌∙◌, ◌⊎◌, set, get_or}
@@ -36,7 +36,8 @@ module _ {u : Under} {signatures : List (List (ℕ × ℕ))} {w : Search} (walks
   abbrev grow : Grow signatures signatures
   grow = Grow-same signatures
 
-  -- These lemmas assume that the search collects one more item x, which is a pair (label ID, block) or a signature ID.
+  -- These lemmas assume that the search appends the item x to its list of items. An item is a pair (label ID, block) or
+  -- a signature ID.
   module _ (x : Item) where
     abbrev With : Search
     With = with_item x w
@@ -74,9 +75,9 @@ module _ {u : Under} {signatures : List (List (ℕ × ℕ))} {w : Search} (walks
 
   -- The current state is the state whose outgoing transitions are being read. A component is a strongly connected set
   -- of states on the stack. The root of a component is its first state on the stack. These lemmas assume that an inert
-  -- step leads from the current state to the state at the index q of the stack. They also assume that all components
-  -- from the component of this state up to the top of the stack are merged, so that all roots above the index q are
-  -- dropped.
+  -- step leads from the current state to the state at the index q of the stack. The lemmas also assume that the
+  -- component of this state is merged with all components above it on the stack. The merge drops all roots above the
+  -- index q.
   module _ (laws : Laws) {q : ℕ} {roots : List Root} (cuts : CutsRoots q w.roots roots) where
     cut_each : (P : Root → Type 0) → All P w.roots → All P roots
     cut_each P each = rw cuts.roots (All-take P cuts.count w.roots each)
@@ -96,8 +97,8 @@ module _ {u : Under} {signatures : List (List (ℕ × ℕ))} {w : Search} (walks
     join_keeps = grind (arith, common_steps, cuts.roots)
 
     -- A component is a strongly connected set of states on the stack. A root is the first state of a component on the
-    -- stack. Suppose that all components from the component of the state at the index q of the stack up to the top of
-    -- the stack are merged. Then no root is above the index q.
+    -- stack. Consider the component that contains the state at the index q of the stack. Suppose that this component is
+    -- merged with all components above it on the stack. Then no root is above the index q.
     below : All (λ r. r.height ≤ q) roots
     below i d h =
         let root = get_or_default w.roots (cuts.count - 1) d no_root in
@@ -105,8 +106,8 @@ module _ {u : Under} {signatures : List (List (ℕ × ℕ))} {w : Search} (walks
 
     -- A component is a strongly connected set of states on the stack. The current state is the state whose outgoing
     -- transitions are being read. Suppose that an inert step leads from the current state to a state t on the stack,
-    -- and that the components from the component of t up to the top of the stack are merged. Then t and the current
-    -- state are in the same component.
+    -- and that the component of t is merged with all components above it on the stack. Then t and the current state are
+    -- in the same component.
     pub joined_here : (t : ℕ) → stage_at w.stages t ≡ OnStack q → IsInComponent Joined (here w) t
     joined_here t is =
         (q, is, λ i d h _. below i d h, λ i d h _. cut_each (λ r. r.height ≤ here w) (reached walks) i d h)
@@ -259,8 +260,8 @@ module _ {u : Under} {signatures : List (List (ℕ × ℕ))} {w : Search} (walks
           search (rules, walks, sizes, opened, signed, roots, frames, connects, sound, accounted)
 
       -- Suppose that an inert step leads from the current state, if there is one, to the state t. If the search pushes
-      -- t, the invariant of the search still holds (`GoesOn`). The number of visits (counted reads of transitions) that
-      -- the search still has to make does not change.
+      -- t, the invariant of the search still holds (`GoesOn`). The number of visits (reads of transitions that the
+      -- meter counts) that the search still has to make does not change.
       pub entered_on : GoesOn u signatures signatures w Entered × (ahead u Entered ≡ ahead u w)
       entered_on =
           let read = unread-set w.stages t (OnStack n) refl within unseen (remaining u) in
@@ -269,8 +270,8 @@ module _ {u : Under} {signatures : List (List (ℕ × ℕ))} {w : Search} (walks
           (grind (arith, SearchInvariant-enter, grow, stage_of, unseen), omega (arith, read, row, push))
 
   -- Each frame belongs to a state on the stack, and records which outgoing transitions of this state are still to be
-  -- read. These lemmas are about the step in which the frame with the index i reads its next transition. This
-  -- transition is at the place m in the list of all transitions, and the step marks it as read.
+  -- read. These lemmas are about the step in which the search reads the next transition of the frame with the index i.
+  -- This transition is at the place m in the list of all transitions, and the step marks it as read.
   module _ {i m : ℕ} {x : Frame} (low : i < length w.frames) (is : x ≡ record (frame_at w.frames i) { next = m + 1 })
       (next : (frame_at w.frames i).next ≡ m) (more : m < (frame_at w.frames i).end) where
     abbrev pub Moved : Search

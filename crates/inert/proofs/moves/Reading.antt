@@ -27,7 +27,8 @@ use Rattle.inert.proofs.moves.Forward.{entered_on, entered_met, SearchInvariant-
 
 -- The last frame of the search records which outgoing transitions of the current state are still to be read. These
 -- lemmas assume that the first of these transitions is at the place k, which is an index in the list of all
--- transitions. They describe the search after this transition was processed, but before it is marked as read.
+-- transitions. The lemmas describe the search after this transition was processed, but before the transition is marked
+-- as read.
 module _ (laws : Laws) {u : Under} (lts : IsLts u.l) {signatures : List (List (ℕ × ℕ))} {w : Search}
     (walks : SearchInvariant u signatures w)
     (some : 0 < length w.frames) {k : ℕ} (next : (top w.frames).next ≡ k) (more : k < (top w.frames).end) where
@@ -58,8 +59,9 @@ module _ (laws : Laws) {u : Under} (lts : IsLts u.l) {signatures : List (List (�
       let here = laws.here (system_of u.l) (slice_index u.blocks) (source_of e) in
       grind (arith, lts.in_range.each k (0, 0, 0) place_low, source, here, place_step u.l k place_low, other)
 
-  -- The search goes from w to m when it processes the transition e. `Taken` lists the facts that then hold for m. The
-  -- flag `enters` is true if the search has pushed a state when it processed e.
+  -- Let w be the data of the search before it processes the transition e, and let m be the data after this. `Taken`
+  -- lists the facts that then hold for m. The flag `enters` is true if the search has pushed a state while it processed
+  -- e.
   pub record Taken (m : Search) (enters : Bool) : Type 0 where
     pub on : GoesOn u signatures signatures w m
     pub done : IsHandled u signatures m (here w) e
@@ -140,29 +142,32 @@ marked_first places w enters (Goes t) low (inr (inr (id, stage, new, stay))) =
     (with_item (Interned id) w, inr (inr (id, stage, refl, stay)), new)
 
 -- The last frame of the search records which outgoing transitions of the current state are still to be read. `Reads`
--- describes a search that has gone from `old` to `new` by reading the transitions that the last frame of `old` records,
--- up to but excluding the transition at the place (index) k. It holds under three conditions. First, the search has
--- gone on from `old` to `new` (`GoesOn`). Second, in `new`, the next transition of this frame is at the place k. Third,
--- the number of visits (counted reads) that the search had to make in `old` equals the number of visits that it still
--- has to make in `new` plus the number of visits that reading these transitions took.
+-- describes a search that has gone from `old` to `new` by reading all transitions before the place (index) k that the
+-- last frame of `old` records. It holds if all three of the following conditions hold. First, the search has gone on
+-- from `old` to `new` (`GoesOn`). Second, in `new`, the next transition of this frame is at the place k. Third, the
+-- number of visits (reads that the meter counts) that the search has to make from `old` on is the sum of two numbers:
+-- the number of visits that it has to make from `new` on, and the number of visits that reading these transitions took.
+-- The number k must be at least the field `next` of the last frame of `old`.
 pub record Reads (u : Under) (signatures : List (List (ℕ × ℕ))) (old new : Search) (k : ℕ) : Type 0 where
   pub on : GoesOn u signatures signatures old new
   pub here : frame_at new.frames (length old.frames - 1) ≡ record (top old.frames) { next = k }
   pub forward : (top old.frames).next ≤ k
   pub less : ahead u new + price_between u.visited (top old.frames).next k ≡ ahead u old
 
--- A frame records which outgoing transitions of a state on the stack are still to be read. `Stays` holds if no state
--- was pushed while the search went from `old` to `new`, so that the stack, the number of frames and the number of
--- unvisited states are the same.
+-- A frame records which outgoing transitions of a state on the stack are still to be read. `Stays` compares the data of
+-- the search at two points `old` and `new`. It holds if the stack, the number of frames and the number of unvisited
+-- states are the same at both points. While the search reads transitions of the current state, this is the case as long
+-- as no state is pushed.
 pub record Stays (old new : Search) : Type 0 where
   pub size : length new.frames ≡ length old.frames
   pub stack : new.stack ≡ old.stack
   pub unseen : unseen new.stages ≡ unseen old.stages
 
 -- The last frame of the search records which outgoing transitions of the current state are still to be read. `Marked`
--- holds if the search has gone from `old` to `new` by reading the transitions that the last frame of `old` records, up
--- to and including the transition at the place (index) k. If the flag `enters` is false, no state was pushed (`Stays`).
--- If the flag `enters` is true, the upper bound `steps` for the steps that the search still has to make has decreased.
+-- holds if the search has gone from `old` to `new` by reading all transitions that the last frame of `old` records at
+-- the place (index) k and before it. If the flag `enters` is false, no state was pushed, and `Stays` holds. If the flag
+-- `enters` is true, the value of `steps` has decreased. This value is an upper bound for the number of states that the
+-- search still pushes plus the number of frames that it still pops.
 pub record Marked (u : Under) (signatures : List (List (ℕ × ℕ))) (old new : Search) (k : ℕ) (enters : Bool) : Type 0
   where
     pub reads : Reads u signatures old new (k + 1)
@@ -186,8 +191,8 @@ module _ {u : Under} {signatures : List (List (ℕ × ℕ))} {first w : Search} 
   -- These lemmas assume that the transition at the place k (the index k in the list of all transitions) is processed
   -- next.
   module _ (laws : Laws) (lts : IsLts u.l) (more : k < (top first.frames).end) where
-    -- A visit is a counted read of a transition. Reading the transition at the place (index) k takes 0 or 1 visits.
-    -- This number of visits is at most the number of visits that the search still has to make.
+    -- A visit is a read of a transition that the meter counts. Reading the transition at the place (index) k takes 0 or
+    -- 1 visits. This number of visits is at most the number of visits that the search still has to make.
     pub next_ahead : price u.visited k ≤ ahead u w
     next_ahead =
         let here = ap (λ y. y.next) top_is in

@@ -1,5 +1,6 @@
--- Lemmas about the number of visits (counted reads of transitions) that a search still has to make. They show how this
--- number changes when a state is pushed, when a transition is read, and when the search goes back from a state.
+-- Lemmas about the number of visits (reads of transitions that the meter counts) that a search still has to make. The
+-- lemmas show how this number changes when a state is pushed, when a transition is read, and when the search goes back
+-- from a state.
 use Rattle.std.proofs.Common.{rules, ◌≡◌, ◌∙◌, ℕ, ◌+◌, ◌-◌, ◌<◌, ◌≤◌, false, cond, List, length, set, take, map, ap}
 use Rattle.std.proofs.Common.{refl, sym, arith}
 use Rattle.std.specs.List.{sum}
@@ -41,10 +42,10 @@ module _ (old new : List VisitState) (same : (s : ℕ) → is_unvisited (stage_a
     pub unread-same : (places : List Triple) → unread places new ≡ unread places old
     unread-same places = ap length (filter_agree _ _ (λ e. same (source_of e)) places)
 
--- A visit is a counted read of a transition. Each frame belongs to a state on the stack, and records which outgoing
--- transitions of this state are still to be read. Suppose that the next transition of the frame at the index i is read.
--- If this transition was visited before, the number of visits that are needed for the transitions of all frames stays
--- the same. If it was not visited before, this number decreases by 1.
+-- A visit is a read of a transition that the meter counts. Each frame belongs to a state on the stack, and records
+-- which outgoing transitions of this state are still to be read. Suppose that the next transition of the frame at the
+-- index i is read. If this transition was visited before, the number of visits that are needed for the transitions of
+-- all frames stays the same. If it was not visited before, this number decreases by 1.
 pub rest-next : (visited : List ℕ) (frames : List Frame) (i : ℕ) (x : Frame) → i < length frames →
     x.end ≡ (frame_at frames i).end → x.next ≡ (frame_at frames i).next + 1 →
     (frame_at frames i).next < (frame_at frames i).end →
@@ -53,18 +54,19 @@ rest-next visited frames i x below end next more =
     let one = price_first visited (frame_at frames i).next (frame_at frames i).end more in
     grind (arith, sum_by-set (λ y. price_between visited y.next y.end) frames i x no_frame below, end, next, one)
 
--- A visit is a counted read of a transition. Each frame belongs to a state on the stack, and records which outgoing
--- transitions of this state are still to be read. Reading the next transition of one frame takes 0 or 1 visits. This
--- number of visits is at most the number of visits that are needed for the transitions of all frames.
+-- A visit is a read of a transition that the meter counts. Each frame belongs to a state on the stack, and records
+-- which outgoing transitions of this state are still to be read. Reading the next transition of one frame takes 0 or 1
+-- visits. This number of visits is at most the number of visits that are needed for the transitions of all frames.
 pub rest-most : (visited : List ℕ) (frames : List Frame) (i : ℕ) → i < length frames →
     (frame_at frames i).next < (frame_at frames i).end → price visited (frame_at frames i).next ≤ rest visited frames
 rest-most visited frames i below more =
     let x = frame_at frames i in
     omega (arith, rest-next visited frames i (record x { next = x.next + 1 }) below refl refl more)
 
--- A visit is a counted read of a transition. Each frame belongs to a state on the stack, and records which outgoing
--- transitions of this state are still to be read. Suppose that no transition of the last frame is still to be read.
--- Then removing the last frame does not change the number of visits that are needed for the transitions of all frames.
+-- A visit is a read of a transition that the meter counts. Each frame belongs to a state on the stack, and records
+-- which outgoing transitions of this state are still to be read. Suppose that no transition of the last frame is still
+-- to be read. Then removing the last frame does not change the number of visits that are needed for the transitions of
+-- all frames.
 pub rest-cut : (visited : List ℕ) (frames : List Frame) → 0 < length frames → (top frames).next ≡ (top frames).end →
     rest visited (take (length frames - 1) frames) ≡ rest visited frames
 rest-cut visited frames some read =

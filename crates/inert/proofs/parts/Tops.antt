@@ -28,14 +28,15 @@ abbrev pub last : List Root → Root
 last roots = root_at roots (length roots - 1)
 
 -- A component is a strongly connected set of states on the stack. The root of a component is its first state on the
--- stack. The component collects items, which are pairs (label ID, block) and signature IDs. `IsBefore` holds under two
--- conditions. First, the root x is below the root y on the stack. Second, the items of the component of y begin at the
--- same index of the list of items as the items of the component of x, or at a greater index.
+-- stack. The component collects items, which are pairs (label ID, block) and signature IDs. For each component, the
+-- search stores the index at which the items of the component begin in the list of all items. `IsBefore` holds if both
+-- of the following conditions hold. First, the root x is below the root y on the stack. Second, the index that is
+-- stored for the component of x is not greater than the index that is stored for the component of y.
 abbrev pub IsBefore : Root → Root → Type 0
 IsBefore x y = (x.height < y.height) × (x.items ≤ y.items)
 
--- If each element of a list is in a given relation to all elements after it (`AllPairs`), then the same holds for the
--- first n elements of the list.
+-- Suppose that each element of a list is in a given relation to all elements after it (`AllPairs`). Then, in the list
+-- of the first n elements, each element is in this relation to all elements after it.
 pub AllPairs-take : {X : Type 0} (R : X → X → Type 0) (n : ℕ) (xs : List X) → AllPairs R xs → AllPairs R (take n xs)
 AllPairs-take R n xs old i j d h low = grind (arith, elements, old i j d)
 

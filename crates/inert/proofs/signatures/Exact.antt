@@ -1,8 +1,8 @@
 -- Proves that the search computes correct signatures. The last component is the strongly connected set of states at the
--- top of the stack. It has collected items, which are pairs (label ID, block) and signature IDs. A signature ID
--- represents all pairs of the signature with this ID. Suppose that all outgoing transitions of the states of the last
--- component were read. Then the pairs that its items represent are exactly the pairs of the signature of each of its
--- states.
+-- top of the stack. The last component has collected items, which are pairs (label ID, block) and signature IDs. A
+-- signature ID represents all pairs of the signature with this ID. Suppose that all outgoing transitions of the states
+-- of the last component were read. Then the items of the last component represent exactly the pairs in the signature of
+-- each state of this component.
 use Rattle.std.proofs.Common.{rules, ◌≡◌, ℕ, ◌+◌, ◌-◌, ◌<◌, ◌≤◌, List, [], ◌∷◌, length, drop, get_or, slice_index, sym}
 use Rattle.std.proofs.Common.{◌∙◌, subst, inl, inr, arith, Contains}
 use Rattle.std.proofs.lemmas.Grind.{common_steps}
@@ -39,9 +39,10 @@ place_step l k h =
 module _ (laws : Laws) {u : Under} (lts : IsLts u.l) {signatures : List (List (ℕ × ℕ))} {w : Search}
     (walks : SearchInvariant u signatures w)
     (some : 0 < length w.frames) (read : HasRead w) (height : (last w.roots).height ≡ here w) where
-  -- The last component is the strongly connected set of states at the top of the stack. It has collected the items from
-  -- the index `c0` on. An item is a pair (label ID, block) or a signature ID, and a signature ID represents all pairs
-  -- of its signature. `Collected` holds if some item of the last component represents the pair z.
+  -- The last component is the strongly connected set of states at the top of the stack. In the list of all items, the
+  -- items of the last component are the items from the index `c0` on. An item is a pair (label ID, block) or a
+  -- signature ID, and a signature ID represents all pairs of its signature. `Collected` holds if some item of the last
+  -- component represents the pair z.
   abbrev c0 : ℕ
   c0 = (last w.roots).items
 

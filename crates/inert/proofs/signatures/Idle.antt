@@ -1,6 +1,6 @@
 -- Lemmas about two lists of signature IDs after the search has completed the active states, which are the states that
--- the round processes. The first list has the ID of the cached signature of each state. The second list has the IDs
--- that are used to split the blocks.
+-- the round processes. The first list contains the ID of the cached signature of each state. The second list contains
+-- the IDs that are used to split the blocks.
 use Rattle.std.proofs.Common.{◌≡◌, ◌⊎◌, ℕ, ◌<◌, List, length, slice_index, ◌∙◌, sym, arith}
 use Rattle.std.proofs.lemmas.Grind.{common_steps}
 use Rattle.std.proofs.lemmas.Bool.{cases_lt}
@@ -36,10 +36,11 @@ module _ {u : Under} {before signatures : List (List (ℕ × ℕ))} {active : Li
             (arith, h, woke.others s, its s, over.all s, size, states, seen s);
       }
 
-  -- The active states are the states that the round processes. These lemmas make two assumptions. First, before the
-  -- search, the cached signature ID of each active state was written to the list `old`, which changes this list to
-  -- `put`. Second, after the search, each of the IDs that were written was replaced by the ID that is used to split the
-  -- block of the state, which changes the list `put` to `signature_ids`.
+  -- The active states are the states that the round processes. These lemmas make three assumptions. First, each state
+  -- that is not active has the ID 0 in the list `old`. Second, before the search, the cached signature ID of each
+  -- active state was written to the list `old`. This changed the list `old` to the list `put`. Third, after the search,
+  -- each of the IDs that were written was replaced by the ID that is used to split the block of the state. This changed
+  -- the list `put` to the list `signature_ids`.
   module _ (old put signature_ids : List ℕ) (none : InactiveHaveNone active old)
       (sizes : length signature_ids ≡ length old)
       (were : (i : ℕ) → i < length active → let s = slice_index active i in

@@ -18,8 +18,8 @@ use Rattle.inert.specs.Search.{AreInternedItems, GivesPair, item_at, Item, Pair,
 use Rattle.inert.specs.SearchMoves.{AreCollected, IsUnionOfItems}
 
 -- Let the element x be appended to the list xs, and let the element y be appended to the list ys. Suppose that ys
--- contains y' if xs contains x'. Suppose also that y equals y' if x equals x'. Then, if the longer list xs contains x',
--- the longer list ys contains y'.
+-- contains y' if xs contains x'. Suppose also that y equals y' if x equals x'. Then, if the list xs with x appended
+-- contains x', the list ys with y appended contains y'.
 more : {X Y : Type 0} (xs : List X) (ys : List Y) {x x' : X} {y y' : Y} → (Contains xs x' → Contains ys y')
     → (x ≡ x' → y ≡ y') → Contains (xs ++ x ∷ []) x' → Contains (ys ++ y ∷ []) y'
 more xs ys {x = x} {x' = x'} {y = y} {y' = y'} old new c = elim (Contains-push_cases xs x x' c) [
@@ -52,8 +52,9 @@ module _ (all : List Item) (n : ℕ) (signature_ids : List ℕ) (pairs : List (�
     own = λ x y. (λ c. Contains-append_left _ _ _ ((taken.own x y).0 c), λ c. (taken.own x y).1 (less xs (λ e. cc) c));
   })
 
--- An item is a pair (label ID, block) or a signature ID. Suppose that the list xs has exactly the signature IDs among
--- the items. If xs is sorted and duplicates are removed, the resulting list zs still has exactly these signature IDs.
+-- An item is a pair (label ID, block) or a signature ID. Suppose that the list xs contains exactly the signature IDs
+-- among the items. If xs is sorted and duplicates are removed, the resulting list zs still contains exactly these
+-- signature IDs.
 pub taken_ordered : (items : List Item) (xs ys zs : List ℕ) (pairs : List (ℕ × ℕ)) → AreCollected items xs pairs
     → IsPermutation xs ys → IsFiltered (DiffersFromLast nat_eq) [] ys zs → AreCollected items zs pairs
 taken_ordered items xs ys zs pairs taken same filtered = rw (dedup_is nat_eq ys zs filtered) (record {
@@ -67,7 +68,7 @@ taken_ordered items xs ys zs pairs taken same filtered = rw (dedup_is nat_eq ys 
 
 module _ (items : List Item) (signatures : List (List (ℕ × ℕ))) (signature_ids : List ℕ) (pairs : List (ℕ × ℕ))
     (taken : AreCollected items signature_ids pairs) where
-  -- An item is a pair (label ID, block) or a signature ID. Suppose that the list `signature_ids` has exactly the
+  -- An item is a pair (label ID, block) or a signature ID. Suppose that the list `signature_ids` contains exactly the
   -- signature IDs among the items. Then the signature ID at each index of this list is one of the items.
   listed_at : (i : ℕ) → i < length signature_ids → Contains items (Interned (slice_index signature_ids i))
   listed_at i low = (taken.named (slice_index signature_ids i)).0 (Contains-get_or signature_ids i 0 low)

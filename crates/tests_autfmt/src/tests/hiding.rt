@@ -79,8 +79,8 @@ fn good_lines(rt: HostRuntime) -> Result<(), Fail> {
     Ok(())
 }
 
-/// An example: its name, its hide list (the labels to hide), the index at which reading the list fails, and the
-/// expected error.
+/// An example: its name, its hide list (the labels to hide), the number of bytes after which reading the list fails (or
+/// `None` if it does not fail), and the expected error.
 type Faulty = (&'static str, &'static [u8], Option<usize>, Fault);
 
 const FAULTY: [Faulty; 13] = [
@@ -146,8 +146,8 @@ fn longest_hide_list(rt: HostRuntime) -> Result<(), Fail> {
 }
 
 /// Fails unless the hide list (the list of labels to hide) is rejected because it has too many lines. The list is read
-/// twice: from a source that never fails, and from a source that fails after its last byte. A source is what the list
-/// is read from.
+/// twice: from a source that never fails, and from a source that fails after its last byte. A source is the object from
+/// which the list is read.
 fn check_too_long(alloc: Global, list: &[u8]) -> Result<(), Fail> {
     for place in [None, Some(list.len())] {
         check_fault(alloc, "longest-hide-list", list, place, TooManyHidden)?;

@@ -27,7 +27,7 @@ fn append(byte: u8, times: usize, behind: &str, text: &mut Vec<u8>) -> Result<()
     Ok(())
 }
 
-/// An example: its name, the arguments of `padded` that make its input, and the expected error.
+/// An example: its name, the arguments with which the function `padded` makes its input, and the expected error.
 type Long = (&'static str, &'static str, u8, usize, &'static str, Fault);
 
 const LONG: [Long; 6] = [
@@ -113,16 +113,17 @@ const PLAIN: Around = ("des (0, 1, 2)\n(0, ", ", 1)\n");
 
 const QUOTED: Around = ("des (0, 1, 2)\n(0, \"", "\", 1)\n");
 
-/// Each entry has three parts. The first part is a byte, which is repeated to make a label of the largest length. The
-/// other parts are the text around this label in the input, and the text around it in the output.
+/// Each entry consists of three parts. The first part is a byte, which is repeated to make a label of the largest
+/// length. The second part is the text around this label in the input, and the third part is the text around this label
+/// in the output.
 const LABELS: [(u8, Around, Around); 3] = [
     (b'a', PLAIN, PLAIN),
     (b'a', QUOTED, PLAIN),
     (b' ', QUOTED, QUOTED),
 ];
 
-/// Fails unless a label of 8,000 bytes is read and written. `read` is the text around the label in the input, and
-/// `written` is the text around the label in the output.
+/// Fails unless a label of 8,000 bytes is read and written correctly. The argument `read` is the text around the label
+/// in the input, and `written` is the text around the label in the output.
 fn check_label(alloc: Global, byte: u8, read: Around, written: Around) -> Result<(), Fail> {
     let text = padded(alloc, read.0, byte, 8000, read.1)?;
     let wanted = padded(alloc, written.0, byte, 8000, written.1)?;
@@ -206,8 +207,8 @@ fn two_thousand(alloc: Global, rounds: usize, times: usize) -> Result<String, Al
     Ok(text)
 }
 
-/// Tests an input with a thousand labels, each of which is on two lines that are far apart. To guess the ID of a label,
-/// the reader uses a table with few entries. Many of these labels share an entry of this table.
+/// Tests an input with a thousand labels, each of which is on two lines that are far apart. The reader has a cache for
+/// the IDs of labels, which is a table with few entries. Many of the thousand labels share an entry of this table.
 #[test]
 fn many_labels(rt: HostRuntime) -> Result<(), Fail> {
     let text = two_thousand(rt.alloc(), 2, 1)?;

@@ -1,5 +1,5 @@
-//! Functions that run the examples of the other files. They read inputs in chunks of several sizes. Then they check the
-//! error that reading returns, or they write the system that was read and check the output.
+//! Functions that run examples of the other files. These functions read inputs in chunks of several sizes. Then they
+//! check the error that reading returns, or they write the system that was read, and check the output.
 use autfmt::{
     Fault, Hidden, Limits, Sink, SliceSource, VecSink, read, read_hidden, read_hiding, write,
 };
@@ -14,11 +14,11 @@ pub(crate) type Faulty = (&'static str, &'static [u8], Fault);
 /// An example: its name, its input, its hide list (the labels to hide), and the expected output.
 pub(crate) type Written = (&'static str, &'static [u8], &'static [u8], &'static [u8]);
 
-/// The sizes of the chunks in which each input is read.
+/// The tested chunk sizes. Each input is read once for each of these sizes, in chunks of this size.
 pub(crate) const SIZES: [usize; 7] = [1, 2, 3, 7, 4095, 4096, 4097];
 
 /// Returns the system that the input describes. The input is read in chunks of `k` bytes from a source (the object from
-/// which the input is read) that fails at the index `place`.
+/// which the input is read) that fails after `place` bytes.
 fn system_of(
     alloc: Global,
     text: &[u8],
@@ -46,9 +46,9 @@ pub(crate) fn check_fault(
     Ok(())
 }
 
-/// The table has inputs and, for each input, the error that reading this input must return. Reads each input with the
-/// limits `lim` (the largest allowed sizes). Fails if reading some input does not return the error that the table has
-/// for this input.
+/// Each entry of the table contains an input, and the error that reading this input must return. The function reads
+/// each input with the limits `lim` (the largest allowed sizes). It fails if reading an input does not return the error
+/// in its entry.
 pub(crate) fn check_faults(alloc: Global, lim: &Limits, table: &[Faulty]) -> Result<(), Fail> {
     for (name, text, fault) in table {
         check_fault(alloc, name, text, None, lim, Some(*fault))?;
@@ -57,7 +57,7 @@ pub(crate) fn check_faults(alloc: Global, lim: &Limits, table: &[Faulty]) -> Res
 }
 
 /// Returns the labels of the hide list (the list of labels to hide). The list is read in chunks of `k` bytes from a
-/// source (the object from which the hide list is read) that fails at the index `place`.
+/// source (the object from which the hide list is read) that fails after `place` bytes.
 pub(crate) fn hidden_by(
     alloc: Global,
     list: &[u8],
@@ -82,8 +82,8 @@ pub(crate) fn hiding(
 }
 
 /// Writes the system `s` to the sink (the object to which the output is written). Returns the result of `write`, and
-/// the number of visits (counted reads of transitions) that `write` made. If `write` cannot be called, the result is an
-/// error that `write` never returns.
+/// the number of visits (reads of transitions) that `write` made. If the precondition of `write` does not hold, `write`
+/// is not called, and the result is an error that `write` never returns.
 pub(crate) fn answer<W: Sink>(
     alloc: Global,
     s: &Lts<Counter>,

@@ -1,6 +1,6 @@
 //! Tests of the line buffer, of sources, and of sinks. Some sources and sinks are in memory, and others use readers and
-//! writers of the standard library. A source is what an input is read from, and a sink is what the output is written
-//! to.
+//! writers of the standard library. A source is an object from which an input is read, and a sink is an object to which
+//! an output is written.
 ghost use Rattle.std.specs.Prelude.{◌≡◌};
 
 use autfmt::{FromRead, LineBuffer, Sink, SliceSource, Source, ToWrite, VecSink, put_all};
@@ -36,7 +36,7 @@ fn full_line_buffer(_rt: HostRuntime) -> Result<(), Fail> {
 }
 
 /// Appends to `all` the bytes that the source `r` (the object from which the input is read) returns, until the source
-/// ends or fails. Each call takes at most five bytes from it.
+/// ends or fails. Each call takes at most five bytes from the source.
 fn drain<R: Source>(r: &mut R, all: &mut Vec<u8>) -> Result<(), AllocError> {
     let mut piece = [0u8; 5];
     for _ in 0..1000 {
@@ -49,8 +49,8 @@ fn drain<R: Source>(r: &mut R, all: &mut Vec<u8>) -> Result<(), AllocError> {
     Ok(())
 }
 
-/// Reads from the source `r` (the object from which the input is read) until it ends or fails. Returns true if the
-/// source returned exactly the bytes `wanted`, and it then reports `failures` failures.
+/// Reads from the source `r` (the object from which the input is read) until the source ends or fails. Returns true if
+/// the source returned exactly the bytes `wanted`, and then reports `failures` failures.
 fn is_drained<R: Source>(
     alloc: Global,
     r: &mut R,
@@ -62,8 +62,8 @@ fn is_drained<R: Source>(
     Ok(all.as_slice() == wanted && r.failures() == failures)
 }
 
-/// Reads the text `TEXT` from a source (the object from which the input is read) that fails at the index `place`.
-/// Returns true if the source returned exactly the bytes `wanted`, and it then reports `failures` failures.
+/// Reads the text `TEXT` from a source (the object from which the input is read) that fails after `place` bytes.
+/// Returns true if the source returned exactly the bytes `wanted`, and then reports `failures` failures.
 fn gives(
     alloc: Global,
     place: Option<usize>,
@@ -122,7 +122,7 @@ fn fills<W: Sink>(sink: &mut W) -> bool
 }
 
 /// Writes the text to a sink (the object to which the output is written) that fails after `count` bytes. Returns true
-/// if the sink accepts exactly the bytes `wanted`, and it reports `failures` failures after `finish`.
+/// if the sink accepts exactly the bytes `wanted`, and reports `failures` failures after `finish`.
 fn takes(alloc: Global, count: Option<usize>, most: usize, wanted: &[u8], failures: u32) -> bool {
     let mut sink = VecSink::new(alloc, count).pieces(most.max(1));
     let done = fills(&mut sink);
@@ -140,8 +140,8 @@ fn a_vec_sink_takes_bytes_up_to_the_count(rt: HostRuntime) -> Result<(), Fail> {
     Ok(())
 }
 
-/// A sink is what an output is written to. If a sink has room for exactly the bytes of the text, it accepts all these
-/// bytes, and fails only when `finish` is called.
+/// A sink is an object to which an output is written. If a sink has room for exactly the bytes of the text, it accepts
+/// all these bytes, and fails only when `finish` is called.
 #[test]
 fn a_vec_sink_takes_all_bytes(rt: HostRuntime) -> Result<(), Fail> {
     for most in SIZES {

@@ -1,7 +1,7 @@
--- A leader is a state that represents its class, and a class number is the quotient state for a class. This file proves
--- which leaders, class numbers and quotients given systems have. Each system comes with a record that describes its
--- classes and leaders, which is called a census (`Census`). The function `is_census` checks that the census is correct,
--- and the facts about the system follow from the census.
+-- A leader is a state that represents its class, and the class number of a class is the state of the quotient that
+-- represents the class. This file proves which leaders, class numbers and quotients given systems have. The classes and
+-- leaders of each system are described by a record, which is called the census of the system (`Census`). The function
+-- `is_census` checks that the census is correct, and the facts about the system follow from the census.
 use Rattle.std.proofs.Common.{◌≡◌, ℕ, Bool, true, not, eqb, List, [], ◌∷◌, length, map, slice_index, subst}
 use Rattle.std.proofs.lemmas.Bool.{eqb-true}
 use Rattle.theory.specs.System.{System, Reachable}
@@ -18,10 +18,11 @@ use Rattle.tests_theory.proofs.Testing.Numbering.{number_at, number_is}
 use Rattle.tests_theory.proofs.Testing.Dividing.{divides, quotient_passes}
 
 -- A census describes the classes of bisimilar states of a system, and the leaders, which are states that represent
--- their classes. The function `is_census` checks that a census is correct. In a correct census, `block` gives the same
--- block to two states if and only if they are bisimilar. `pairs` is a bisimulation that contains each pair of bisimilar
--- states. After `turns` rounds, the test `differ` distinguishes any two states that are not bisimilar. `lead` gives the
--- leader of each reachable state, and `leaders` lists all leaders in ascending order.
+-- their classes. The function `is_census` checks that a census is correct. In a correct census, the function `block`
+-- gives the same block to two states if and only if they are bisimilar. The list `pairs` is a bisimulation that
+-- contains each pair of bisimilar states. For any two states that are not bisimilar, the test `differ` shows after
+-- `turns` rounds that these states are not bisimilar. `lead` gives the leader of each reachable state (the state that
+-- represents its class), and `leaders` lists all leaders in ascending order.
 pub record Census : Type 0 where
   pub block : ℕ → ℕ
   pub pairs : List (ℕ × ℕ)
@@ -46,8 +47,8 @@ census_parts rel A told h =
     (first.0, second.0, second.1)
 
 -- A census describes the classes of a system, and the leaders, which are states that represent their classes. Suppose
--- that the census of A is correct, and that the function `divides`, which tests whether a system is a quotient, returns
--- true for Q. Then Q is the quotient of A.
+-- that the census of A is correct, and that the function `divides`, which tests whether a system is the quotient of A,
+-- returns true for Q. Then Q is the quotient of A.
 pub is_quotient :
     (rel : Relation) (A Q : System) (told : Census) → is_census rel A told ≡ true →
     divides rel A told.lead told.leaders Q ≡ true → Quotient rel A Q
@@ -56,9 +57,9 @@ is_quotient rel A Q told h d =
     quotient_passes rel A Q told.block told.pairs told.turns told.lead told.leaders parts.0 parts.1 parts.2 d
 
 -- A census describes the classes of a system, and the leaders, which are states that represent their classes. The list
--- `told` has triples of a system, a second system, and a census of the first system. Suppose that the census in each
--- triple is correct, and that the function `divides`, which tests whether a system is a quotient, returns true for the
--- second system. Then, in each triple, the second system is the quotient of the first system.
+-- `told` consists of triples of a system, a second system, and a census of the first system. Suppose that, in each
+-- triple, the census is correct, and the test `divides` (is the second system the quotient of the first system?)
+-- returns true. Then, in each triple, the second system is the quotient of the first system.
 pub are_quotients :
     (rel : Relation) (told : List (System × System × Census)) →
     every told (λ x. and_then (is_census rel x.0 x.2) (λ _. divides rel x.0 x.2.lead x.2.leaders x.1)) ≡ true →
@@ -72,8 +73,8 @@ are_quotients rel ((A, Q, told) ∷ rest) h =
     (is_quotient rel A Q told parts.0 parts.1, are_quotients rel rest first.1)
 
 -- A census describes the classes of a system, and the leaders, which are states that represent their classes. Suppose
--- that the census is correct, and that the state s is reachable. Let n be the number that `number_at` computes for the
--- leader of s in the census. Then n is the class number of s, which is the quotient state that represents s.
+-- that the census is correct, that the state s is reachable, and that the function `number_at` computes the number n
+-- for the leader of s in the census. Then n is the class number of s, which is the quotient state that represents s.
 pub is_number :
     (rel : Relation) (A : System) (s n : ℕ) (told : Census) → is_census rel A told ≡ true →
     and_then (has (reachable A) s) (λ _. eqb (number_at A told.leaders (told.lead s)) n) ≡ true → Number rel A s n
@@ -99,8 +100,8 @@ is_led rel A s l told h d =
     s (reachable_found A s (has_contains (reachable A) s both.0)))
 
 -- A census describes the classes of a system, and the leaders, which are states that represent their classes.
--- `lists_numbers` returns true if all states are reachable, and the list `numbers` gives, for each state, the class
--- number that follows from the census, which is the quotient state for the class.
+-- `lists_numbers` returns true if all states are reachable, and the list `numbers` gives the class number of each state
+-- according to the census. The class number of a state is the quotient state that represents the class of the state.
 abbrev pub lists_numbers : System → List ℕ → Census → Bool
 lists_numbers A numbers told =
     and_then (eqb (length numbers) A.states) (λ _.
@@ -120,9 +121,9 @@ numbers_are rel A numbers told h d =
     }
 
 -- A census describes the classes of a system, and the leaders, which are states that represent their classes. Suppose
--- that the census of A is correct, that `divides` returns true for Q, and that `lists_numbers` returns true for the
--- list `numbers`. Then Q is the quotient of A, and the list `numbers` gives the class number of each state of A, which
--- is the quotient state that represents this state.
+-- that the census of A is correct, that the test `divides` (is a system the quotient of A?) returns true for Q, and
+-- that `lists_numbers` returns true for the list `numbers`. Then Q is the quotient of A, and the list `numbers` gives
+-- the class number of each state of A, which is the quotient state that represents this state.
 pub quotient_is :
     (rel : Relation) (A Q : System) (numbers : List ℕ) (told : Census) → is_census rel A told ≡ true →
     divides rel A told.lead told.leaders Q ≡ true → lists_numbers A numbers told ≡ true → QuotientIs rel A Q numbers
@@ -151,7 +152,7 @@ leaders_are rel A leaders told h d =
     }
 
 -- A census describes the classes of a system, and the leaders, which are states that represent their classes. If the
--- census is correct and its list of leaders does not contain l, then l is not a leader.
+-- census is correct, and its list of leaders does not contain the state l, then l is not a leader.
 pub is_no_leader :
     (rel : Relation) (A : System) (l : ℕ) (told : Census) → is_census rel A told ≡ true →
     not (has told.leaders l) ≡ true → ¬ IsLeader rel A l
@@ -161,8 +162,8 @@ is_no_leader rel A l told h d leads =
     (leader_listed rel A told.block told.lead told.leaders
     (classes_pass rel A told.block told.pairs told.turns parts.0) parts.1 l leads))
 
--- Suppose that the list `reachable A` contains all reachable states. If this list does not contain s, then s is not
--- reachable.
+-- Suppose that the list `reachable A` contains all reachable states. If this list does not contain the state s, then s
+-- is not reachable.
 pub is_unreachable : (A : System) (s : ℕ) → and_then (are_reachable A) (λ _. not (has (reachable A) s)) ≡ true →
     ¬ Reachable A s
 is_unreachable A s h path =

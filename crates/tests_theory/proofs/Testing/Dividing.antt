@@ -88,24 +88,24 @@ image A lead leaders e =
       target = number_at A leaders (lead e.target);
     }
 
--- `is_image` returns true if e is a transition of the quotient. This holds if e is not of the kind that a quotient
--- leaves out (`dropped`), and e represents some transition of A whose source is reachable.
+-- `is_image` returns true if e is a transition of the quotient. This is the case if e is not a transition that a
+-- quotient leaves out (`dropped`), and e represents some transition of A whose source is reachable.
 abbrev pub is_image : Relation → System → (ℕ → ℕ) → List ℕ → Transition → Bool
 is_image rel A lead leaders e =
     and_then (not (dropped rel e)) (λ _.
     some A.transitions (λ f. and_then (has (reachable A) f.source) (λ _. same_transition (image A lead leaders f) e)))
 
--- `has_image` returns true if the list es of quotient transitions represents the transition f of A. This holds in three
--- cases: if the source of f is unreachable, if the quotient leaves out the transition that would represent f, or if es
--- contains the transition that represents f.
+-- `has_image` returns true if the list es of quotient transitions represents the transition f of A. The function
+-- returns true in three cases: if the source of f is unreachable, if the quotient leaves out the transition that would
+-- represent f, or if es contains the transition that represents f.
 abbrev pub has_image : Relation → System → (ℕ → ℕ) → List ℕ → List Transition → Transition → Bool
 has_image rel A lead leaders es f =
     or_else (not (has (reachable A) f.source)) (λ _.
     or_else (dropped rel (image A lead leaders f)) (λ _.
     some es (λ e. same_transition e (image A lead leaders f))))
 
--- `divides` returns true if Q is the quotient of A. The function relies on `lead`, which gives the leader of each state
--- of A (the state that represents its class), and on the list of all leaders.
+-- `divides` returns true if the system Q is the quotient of the system A. The function uses `lead`, which gives the
+-- leader of each state of A (the state that represents its class), and the list of all leaders.
 abbrev pub divides : Relation → System → (ℕ → ℕ) → List ℕ → System → Bool
 divides rel A lead leaders Q =
     and_then (eqb (length leaders) Q.states) (λ _. and_then (eqb Q.first 0) (λ _.

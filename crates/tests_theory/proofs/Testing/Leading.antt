@@ -28,8 +28,8 @@ are_classes rel A block pairs k =
 module _ (rel : Relation) (A : System) (block : ℕ → ℕ) (pairs : List (ℕ × ℕ)) (k : ℕ)
     (h : are_classes rel A block pairs k ≡ true) where
   -- `class_test` tests whether the states s and t share a block if and only if they are bisimilar. If s and t share a
-  -- block, it tests whether the list `pairs`, which is a bisimulation, contains the pair (s, t). Otherwise, it tests
-  -- whether the function `differ` distinguishes s and t after k rounds.
+  -- block, the function tests whether the list `pairs`, which is a bisimulation, contains the pair (s, t). Otherwise,
+  -- it tests whether the function `differ` distinguishes s and t after k rounds.
   abbrev class_test : ℕ → ℕ → Bool
   class_test s t = or_else (and_then (eqb (block s) (block t)) (λ _. has_pair pairs s t)) (λ _.
       and_then (not (eqb (block s) (block t))) (λ _. differ rel A A k s t))
@@ -72,19 +72,20 @@ module _ (rel : Relation) (A : System) (block : ℕ → ℕ) (pairs : List (ℕ 
   pub classes_pass : (s t : ℕ) → Bisimilar rel A s A t ↔ Share A block s t
   classes_pass s t = (class_there s t, class_back s t)
 
--- `is_least` returns true if l is less than or equal to each reachable state in the block of s.
+-- `is_least` returns true if the state l is less than or equal to each reachable state in the block of the state s
+-- (states are numbers).
 abbrev pub is_least : System → (ℕ → ℕ) → ℕ → ℕ → Bool
 is_least A block s l = every (reachable A) (λ u. or_else (not (eqb (block s) (block u))) (λ _. leb l u))
 
--- `leads_other` returns true if s is not in the block of the first state, and l is the least reachable state in the
--- block of s.
+-- `leads_other` returns true if the state s is not in the block of the first state, and the state l is the least
+-- reachable state in the block of s.
 abbrev pub leads_other : System → (ℕ → ℕ) → ℕ → ℕ → Bool
 leads_other A block s l =
     and_then (not (eqb (block s) (block A.first))) (λ _. and_then (has (reachable A) l) (λ _.
     and_then (eqb (block s) (block l)) (λ _. is_least A block s l)))
 
--- `leads` returns true if l is the leader of s, which is the state that represents the class of s. The result is
--- correct if the blocks are the classes of bisimilar states.
+-- `leads` returns true if the state l is the leader of the state s, which means that l represents the class of s. The
+-- result is correct if the blocks are the classes of bisimilar states.
 abbrev pub leads : System → (ℕ → ℕ) → ℕ → ℕ → Bool
 leads A block s l =
     or_else (and_then (eqb (block s) (block A.first)) (λ _. eqb l A.first)) (λ _. leads_other A block s l)
@@ -94,8 +95,8 @@ abbrev pub are_reachable : System → Bool
 are_reachable A =
     and_then (covers A.transitions (λ e. true) (reachable A) A.first) (λ _. every (reachable A) (λ s. ltb s A.states))
 
--- A leader is a state that represents its class. `are_leaders` returns true if `lead` gives the leader of each
--- reachable state, and the list `leaders` contains exactly the leaders.
+-- A leader is a state that represents its class. `are_leaders` returns true if the function `lead` gives the leader of
+-- each reachable state, and the list `leaders` contains exactly the leaders.
 abbrev pub are_leaders : System → (ℕ → ℕ) → (ℕ → ℕ) → List ℕ → Bool
 are_leaders A block lead leaders =
     and_then (are_reachable A) (λ _.

@@ -13,7 +13,7 @@ use Rattle.tests_theory.proofs.Testing.{some_step_passes, bytes_same, bytes_pass
 use Rattle.tests_theory.proofs.Testing.Systems.{is_system, system_passes}
 use Rattle.tests_theory.proofs.Testing.Reaching.{covers, is_internal, silent_from, silent_found, silent_only}
 
--- `has_pair` returns true if the list `pairs` contains the pair (s, t).
+-- `has_pair` returns true if the list `pairs` contains the pair (s, t) of two states.
 abbrev pub has_pair : List (ℕ × ℕ) → ℕ → ℕ → Bool
 has_pair pairs s t = some pairs (λ p. and_then (eqb p.0 s) (λ _. eqb p.1 t))
 
@@ -24,8 +24,8 @@ has_pair_contains pairs s t h =
     subst (λ z. Pairs pairs z t) (eqb-true found.0.0 s parts.0)
     (subst (λ z. Pairs pairs found.0.0 z) (eqb-true found.0.1 t parts.1) found.1)
 
--- `replies` returns true if the state t of B has a transition with the label x to some state t' such that `r s' t'` is
--- true.
+-- `replies` returns true if the state t of B has a transition with the label x to some state t' such that the function
+-- r returns true for the states s' and t'.
 abbrev pub replies : System → (ℕ → ℕ → Bool) → ℕ → List ℕ → ℕ → Bool
 replies B r t x s' = some_step B.transitions t (λ y t'. and_then (bytes_eq x y) (λ _. r s' t'))
 
@@ -37,13 +37,14 @@ replies_hold B r R sound t x s' h =
     let parts = and_then_parts (bytes_eq x found.0) (λ _. r s' found.1) found.3 in
     (found.1, subst (λ z. Step B t z found.1) (sym (bytes_same x found.0 parts.0)) found.2, sound s' found.1 parts.1)
 
--- A silent path is a path of internal transitions. `replies_later` returns true if a silent path of B leads from t to
--- some state t1 such that `r s t1` and `replies B r t1 x s'` are true.
+-- A silent path is a path of internal transitions. The function r tests whether two states are related. `replies_later`
+-- returns true if a silent path of B leads from the state t to some state t1 that is related to the state s, and t1 has
+-- a transition with the label x to a state that is related to the state s' (`replies`).
 abbrev pub replies_later : System → (ℕ → ℕ → Bool) → ℕ → ℕ → List ℕ → ℕ → Bool
 replies_later B r s t x s' = some (silent_from B t) (λ t1. and_then (r s t1) (λ _. replies B r t1 x s'))
 
--- `answers` returns true if the state t of B matches each transition of the state s of A, where two states count as
--- related if r returns true for them.
+-- `answers` returns true if the state t of B matches each transition of the state s of A. In this test, two states
+-- count as related if the function r returns true for them.
 abbrev pub answers : Relation → System → System → (ℕ → ℕ → Bool) → ℕ → ℕ → Bool
 answers Strong A B r s t = each_step A.transitions s (λ x s'. replies B r t x s')
 answers Branching A B r s t = each_step A.transitions s (λ x s'.
@@ -113,8 +114,9 @@ pub bisimilar_passes :
     is_bisimulation rel A B pairs ≡ true → has_pair pairs s t ≡ true → Bisimilar rel A s B t
 bisimilar_passes rel A B pairs s t h k = (pairs, bisimulation_passes rel A B pairs h, has_pair_contains pairs s t k)
 
--- `avoids` returns true if each transition of t with the label x leads to a state t' for which `d s' t'` is true. In
--- this file, d is a function that returns true only for two states that are known not to be bisimilar.
+-- `avoids` is about two states s' and t. It returns true if the function d returns true for s' and t' whenever t has a
+-- transition with the label x to a state t'. In this file, d is a function that returns true only for two states that
+-- are known not to be bisimilar.
 abbrev pub avoids : System → (ℕ → ℕ → Bool) → ℕ → List ℕ → ℕ → Bool
 avoids B d t x s' = each_step B.transitions t (λ y t'. or_else (not (bytes_eq x y)) (λ _. d s' t'))
 
@@ -129,15 +131,16 @@ avoids_holds B d R apart t x s' h t' step related =
     ]
 
 -- A silent path is a path of internal transitions. The function d returns true only for two states that are known not
--- to be bisimilar. `avoids_later` returns true if `d s t1` or `avoids B d t1 x s'` is true for each state t1 to which a
--- silent path leads from t. In both cases, t cannot match the transition s -x-> s' by a silent path to t1 and a
+-- to be bisimilar. `avoids_later` returns true if, for each state t1 to which a silent path leads from t, `d s t1` or
+-- `avoids B d t1 x s'` is true. In both cases, t cannot match the transition s -x-> s' by a silent path to t1 and a
 -- transition of t1.
 abbrev pub avoids_later : System → (ℕ → ℕ → Bool) → ℕ → ℕ → List ℕ → ℕ → Bool
 avoids_later B d s t x s' = every (silent_from B t) (λ t1. or_else (d s t1) (λ _. avoids B d t1 x s'))
 
--- `no_answer` returns true if t cannot match the transition s -x-> s'. There are two ways to match, and both must be
--- impossible. First, if x is the internal label, t can match without making a transition. Second, t can follow a silent
--- path and then make a transition with the label x.
+-- `no_answer` returns true if the state t cannot match the transition s -x-> s' (from the state s to the state s' with
+-- the label x). There are two ways to match this transition, and both must be impossible. The first way exists only if
+-- x is the internal label: t makes no transition at all. In the second way, t follows a silent path (a path of internal
+-- transitions), and then makes a transition with the label x.
 abbrev pub no_answer : System → (ℕ → ℕ → Bool) → ℕ → ℕ → List ℕ → ℕ → Bool
 no_answer B d s t x s' =
     and_then (or_else (not (bytes_eq x internal)) (λ _. d s' t)) (λ _. avoids_later B d s t x s')
@@ -188,9 +191,9 @@ unanswered_fails Branching A B d R apart s t h answer =
           (silent_only B t moves.0 whole.0 moves.2) moves.3 moves.4 moves.5
     ]
 
--- `differ` returns true if the states s of A and t of B differ after k rounds. Two states differ after k rounds if one
--- of them has a transition that the other one cannot match. Here, a possible target does not count if it already
--- differs from the target of this transition after k - 1 rounds.
+-- `differ` returns true if the states s of A and t of B differ after k rounds. No two states differ after 0 rounds. For
+-- k > 0, two states differ after k rounds if one of them has a transition that the other one cannot match, since each
+-- possible match leads to states that differ after k - 1 rounds.
 abbrev pub differ : Relation → System → System → ℕ → ℕ → ℕ → Bool
 differ rel A B zero s t = false
 differ rel A B (suc k) s t =

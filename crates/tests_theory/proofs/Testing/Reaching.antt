@@ -1,5 +1,6 @@
--- Computes the states that given transitions reach from a state. The function `covers` then checks that the computed
--- list is complete: no transition leads from a state in the list to a state outside.
+-- The functions in this file compute the states that can be reached from a state by given transitions. The function
+-- `covers` then checks that the computed list is complete: no transition leads from a state in the list to a state
+-- outside of the list.
 use Rattle.std.proofs.Common.{◌≡◌, ℕ, zero, suc, Bool, true, false, not, eqb, cond, List, [], ◌∷◌, Contains, bytes_eq}
 use Rattle.std.proofs.Common.{refl, subst, inl, inr}
 use Rattle.std.proofs.lemmas.Bool.{eqb-true, eq-eqb}
@@ -10,27 +11,29 @@ use Rattle.theory.proofs.CallerLemmas.{contains_none}
 use Rattle.tests_theory.proofs.Testing.{and_then, and_then_parts, or_else, or_else_cases, not_passes, every}
 use Rattle.tests_theory.proofs.Testing.{every_passes, has, has_contains, contains_has, bytes_same, bytes_pass}
 
--- `Passing` holds if q returns true for some transition in the list es that leads from s to t.
+-- `Passing` holds if the function q returns true for some transition in the list es that leads from the state s to the
+-- state t.
 abbrev pub Passing : List Transition → (Transition → Bool) → ℕ → ℕ → Type 0
 Passing es q s t =
     (x : List ℕ) × Contains es (record { source = s; label = x; target = t })
     × (q (record { source = s; label = x; target = t }) ≡ true)
 
--- `grown` goes through the list of transitions once, and adds states to the list xs. If q returns true for a
--- transition, and the source of the transition is already in xs, the target is added to xs.
+-- `grown` goes through the list of transitions once, and adds states to the list xs. If the function q returns true for
+-- a transition, and the source of the transition is already in xs, the target is added to xs.
 abbrev pub grown : List Transition → (Transition → Bool) → List ℕ → List ℕ
 grown [] q xs = xs
 grown (e ∷ es) q xs =
     grown es q (cond (and_then (q e) (λ _. and_then (has xs e.source) (λ _. not (has xs e.target)))) (e.target ∷ xs) xs)
 
--- `reached` goes through the list of transitions k times, and returns the states that it finds. At first, only the
--- state s is found. If q returns true for a transition whose source is found, its target is found too (`grown`).
+-- `reached` goes through the list of transitions k times, and returns the states that it has found. At first, it has
+-- found only the state s. If the function q returns true for a transition whose source has been found, the function
+-- also finds the target of this transition (`grown`).
 abbrev pub reached : List Transition → (Transition → Bool) → ℕ → ℕ → List ℕ
 reached es q zero s = s ∷ []
 reached es q (suc k) s = grown es q (reached es q k s)
 
--- `closed` returns true if no transition for which q returns true leads from a state in the list xs to a state outside
--- of xs.
+-- `closed` returns true if no transition for which the function q returns true leads from a state in the list xs to a
+-- state outside of xs.
 abbrev pub closed : List Transition → (Transition → Bool) → List ℕ → Bool
 closed es q xs = every es (λ e. or_else (not (q e)) (λ _. or_else (not (has xs e.source)) (λ _. has xs e.target)))
 
@@ -68,8 +71,8 @@ reached_leads es q zero s u c =
 reached_leads es q (suc k) s u c =
     grown_leads es q s es (reached es q k s) (λ e d. d) (λ v d. reached_leads es q k s v d) u c
 
--- `covers` returns true if the list xs contains s, and no transition for which q returns true leads from a state in xs
--- to a state outside of xs.
+-- `covers` returns true if the list xs contains the state s, and no transition for which the function q returns true
+-- leads from a state in xs to a state outside of xs.
 abbrev pub covers : List Transition → (Transition → Bool) → List ℕ → ℕ → Bool
 covers es q xs s = and_then (has xs s) (λ _. closed es q xs)
 
@@ -108,11 +111,11 @@ is_internal e = bytes_eq e.label internal
 abbrev pub is_inert : (ℕ → ℕ) → Transition → Bool
 is_inert blocks e = and_then (bytes_eq e.label internal) (λ _. eqb (blocks e.target) (blocks e.source))
 
--- `silent_from` returns the states to which paths of internal transitions lead from s.
+-- `silent_from` returns the states to which paths of internal transitions lead from the state s.
 abbrev pub silent_from : System → ℕ → List ℕ
 silent_from A s = reached A.transitions is_internal A.states s
 
--- `inert_from` returns the states to which paths of inert transitions lead from s.
+-- `inert_from` returns the states to which paths of inert transitions lead from the state s.
 abbrev pub inert_from : System → (ℕ → ℕ) → ℕ → List ℕ
 inert_from A blocks s = reached A.transitions (is_inert blocks) A.states s
 

@@ -1,4 +1,5 @@
--- Lemmas which show that a system R is not the quotient of A, because R differs from the known quotient of A.
+-- The lemmas in this file show that a system R is not the quotient of A, because R differs from the known quotient of
+-- A.
 use Rattle.std.proofs.Common.{◌≡◌, true, not, eqb, Contains, refl}
 use Rattle.std.proofs.lemmas.Bool.{eq-eqb}
 use Rattle.theory.specs.System.{System, Transition}
@@ -8,14 +9,13 @@ use Rattle.theory.proofs.CallerLemmas.{same_states, same_transitions}
 use Rattle.tests_theory.proofs.Testing.{not_passes, some, some_from}
 use Rattle.tests_theory.proofs.Testing.Dividing.{same_transition, same_transition_at}
 
--- If Q is the quotient of A, and the number of states of R differs from the number of states of Q, then R is not the
--- quotient of A.
+-- If Q is the quotient of A, and the systems Q and R have different numbers of states, then R is not the quotient of A.
 pub not_by_states :
     (rel : Relation) (A Q R : System) → Quotient rel A Q → not (eqb Q.states R.states) ≡ true → ¬ Quotient rel A R
 not_by_states rel A Q R one h other =
     not_passes (eqb Q.states R.states) h (eq-eqb Q.states R.states (same_states rel A Q R one other))
 
--- If Q is the quotient of A, and R has a transition e that Q does not have, then R is not the quotient of A.
+-- If Q is the quotient of A, and R contains a transition e that Q does not contain, then R is not the quotient of A.
 pub not_by_transition :
     (rel : Relation) (A Q R : System) (e : Transition) → Quotient rel A Q → Contains R.transitions e →
     not (some Q.transitions (λ f. same_transition e f)) ≡ true → ¬ Quotient rel A R

@@ -1,5 +1,5 @@
--- Tests how many splits the refinement of a given system makes, up to and including the first split that changes
--- nothing.
+-- The functions in this file test how many splits the refinement of a given system makes. The last of these splits is
+-- the first split that changes nothing.
 use Rattle.std.proofs.Common.{◌≡◌, ◌≢◌, ℕ, zero, suc, ◌<◌, ◌≤◌, Bool, true, not, eqb, ltb, ltb-true, List, [], ◌∷◌}
 use Rattle.std.proofs.Common.{length, map, slice_index, sym, subst, arith}
 use Rattle.std.specs.List.{slice_index_or}
@@ -15,18 +15,19 @@ use Rattle.tests_theory.proofs.Testing.Signing.{Entry}
 use Rattle.tests_theory.specs.Examples.{SplitsBy, RefinesBy, Round}
 use Rattle.tests_theory.proofs.Testing.Splitting.{is_split, split_passes, splits_by}
 
--- A course records the refinement of a system: its blocks, its signatures, and why each split changes something. The
--- function `ends_after` checks that a course is correct. The field `blocks` lists the blocks before the first split and
--- after each split. `signs` lists, for each split, the signatures of all states. `parts` lists, for each split but the
--- last one, two states that this split separates.
+-- `Course` is a record of the refinement of a system: it lists the blocks and the signatures, and states why each split
+-- except for the last one changes something. The function `ends_after` checks that a course is correct. The field
+-- `blocks` lists the blocks before the first split and after each split. The field `signs` lists, for each split, the
+-- signatures of all states. The field `parts` lists, for each split except for the last one, two states that this split
+-- separates.
 pub record Course : Type 0 where
   pub blocks : List (List ℕ)
   pub signs : List (List (List Entry))
   pub parts : List (ℕ × ℕ)
 
--- The following functions read a course, which lists the blocks and the signatures of each split of a refinement.
--- `block_at` returns the block of a state before the split j. `signs_at` returns the signature of a state at the split
--- j. `parts_at` returns two states that the split j separates.
+-- A course lists the blocks and the signatures of each split of a refinement. The function `block_at` returns the block
+-- of a state before the split with the index j. The function `signs_at` returns the signature of a state at this split.
+-- The function `parts_at` returns two states that this split separates.
 abbrev pub block_at : Course → ℕ → ℕ → ℕ
 block_at course j = slice_index (slice_index_or course.blocks j [])
 
@@ -178,9 +179,9 @@ module _ (rel : Relation) (A : System) (course : Course) (k : ℕ) (h : ends_aft
       (slice_index_or course.blocks j []) (slice_index_or course.signs j []) (slice_index_or course.blocks (suc j) [])
       (runs_is_split rel A course (suc k) runs_and_rest.0 j l)
 
--- `course_of` builds a course, which is a record of all splits of a refinement. The list `first` has the blocks before
--- the first split. The list `rounds` has, for each split, the signatures of all states and the blocks after the split.
--- The list `parts` has, for each split but the last one, two states that this split separates.
+-- `course_of` builds a course, which is a record of all splits of a refinement. The list `first` contains the blocks
+-- before the first split. The list `rounds` contains, for each split, the signatures of all states and the blocks after
+-- the split. The list `parts` contains, for each split except for the last one, two states that this split separates.
 abbrev pub course_of : List ℕ → List Round → List (ℕ × ℕ) → Course
 course_of first rounds parts =
     record { blocks = first ∷ map (λ r. r.1) rounds; signs = map (λ r. r.0) rounds; parts = parts }

@@ -11,7 +11,7 @@ use Rattle.tests_theory.proofs.Testing.{every, every_passes, every_from, some, s
 use Rattle.tests_theory.proofs.Testing.{each_step_passes, some_step, some_step_passes, bytes_same, bytes_pass}
 use Rattle.tests_theory.proofs.Testing.Reaching.{covers, is_inert, inert_from, inert_found, inert_only}
 
--- An entry of a signature: a label and a block ID.
+-- `Entry` is the type of an entry of a signature. An entry is a pair of a label and a block ID.
 abbrev pub Entry : Type 0
 Entry = List ℕ × ℕ
 
@@ -31,8 +31,8 @@ contains_has_entry xs x n c =
     some_from xs (λ p. and_then (bytes_eq p.0 x) (λ _. eqb p.1 n)) (x, n) c
     (and_then_from (bytes_eq x x) (λ _. eqb n n) (bytes_pass x x refl) (eq-eqb n n refl))
 
--- Let p be a pair of a label and a block ID. `from_step` returns true if the state u has a transition with this label
--- to a state of this block. This means that u has a transition with the label in p to a state in the block in p.
+-- `from_step` returns true if the state u has a transition that belongs to the pair p. The pair p consists of a label
+-- and a block ID: the transition must have this label, and must lead to a state of this block.
 abbrev pub from_step : System → (ℕ → ℕ) → ℕ → Entry → Bool
 from_step A blocks u p = some_step A.transitions u (λ x t. and_then (bytes_eq x p.0) (λ _. eqb (blocks t) p.1))
 
@@ -46,8 +46,8 @@ from_step_found A blocks u p h =
       eqb-true (blocks found.1) p.1 parts.1,
     )
 
--- `own` returns true if x is the internal label and n is the ID of the block of s. A branching signature of s never
--- contains the pair of this label and this block ID.
+-- `own` returns true if x is the internal label, and n is the ID of the block of the state s. A branching signature of
+-- s never contains the pair of this label and this block ID.
 abbrev pub own : (ℕ → ℕ) → ℕ → List ℕ → ℕ → Bool
 own blocks s x n = and_then (bytes_eq x internal) (λ _. eqb n (blocks s))
 
@@ -56,7 +56,7 @@ own_pass blocks s x n h =
     let parts = and_then_parts (bytes_eq x internal) (λ _. eqb n (blocks s)) h in
     (bytes_same x internal parts.0, eqb-true n (blocks s) parts.1)
 
--- `in_list` returns true if the list xs contains every entry in the signature of s.
+-- `in_list` returns true if the list xs contains every entry in the signature of the state s.
 abbrev pub in_list : Relation → System → (ℕ → ℕ) → ℕ → List Entry → Bool
 in_list Strong A blocks s xs = each_step A.transitions s (λ x t. has_entry xs x (blocks t))
 in_list Branching A blocks s xs =
@@ -64,7 +64,7 @@ in_list Branching A blocks s xs =
     every (inert_from A blocks s) (λ u.
     each_step A.transitions u (λ x t. or_else (own blocks s x (blocks t)) (λ _. has_entry xs x (blocks t)))))
 
--- `in_signature` returns true if the signature of s contains every entry in the list xs.
+-- `in_signature` returns true if the signature of the state s contains every entry in the list xs.
 abbrev pub in_signature : Relation → System → (ℕ → ℕ) → ℕ → List Entry → Bool
 in_signature Strong A blocks s xs = every xs (λ p. from_step A blocks s p)
 in_signature Branching A blocks s xs =
@@ -117,11 +117,11 @@ in_signature_holds Branching A blocks s xs h x n c =
           (eq-eqb n (blocks s) both.1)),
     )
 
--- `lists_signature` returns true if the list xs contains exactly the entries in the signature of s.
+-- `lists_signature` returns true if the list xs contains exactly the entries in the signature of the state s.
 abbrev pub lists_signature : Relation → System → (ℕ → ℕ) → ℕ → List Entry → Bool
 lists_signature rel A blocks s xs = and_then (in_list rel A blocks s xs) (λ _. in_signature rel A blocks s xs)
 
--- If `lists_signature` returns true, the list xs contains exactly the entries in the signature of s.
+-- If `lists_signature` returns true, the list xs contains exactly the entries in the signature of the state s.
 pub signature_passes : (rel : Relation) (A : System) (blocks : ℕ → ℕ) (s : ℕ) (xs : List Entry) →
     lists_signature rel A blocks s xs ≡ true →
     (x : List ℕ) (n : ℕ) → Signature rel A blocks s x n ↔ Contains xs (x, n)

@@ -75,8 +75,8 @@ module _ (rel : Relation) (A : System) (old new : ℕ → ℕ) (signs : ℕ → 
   pub split_passes : Split rel A old new
   split_passes s t ls lt = (split_there s t ls lt, split_back s t ls lt)
 
--- If `is_split` returns true for the lists `old`, `pairs` and `new`, then `pairs` has the signature of each state with
--- respect to the blocks `old`, and splitting `old` by these signatures gives the blocks `new`.
+-- Suppose that `is_split` returns true for the lists `old`, `pairs` and `new`. Then `pairs` contains the signature of
+-- each state with respect to the blocks `old`, and splitting `old` by these signatures gives the blocks `new`.
 pub splits_by :
     (rel : Relation) (A : System) (old : List ℕ) (pairs : List (List Entry)) (new : List ℕ) →
     is_split rel A (slice_index old) (slice_index new) (λ s. slice_index_or pairs s []) ≡ true →

@@ -29,8 +29,8 @@ label_passes x h =
           (leb-true 0x20 b parts.0, leb-true b 0x7E parts.1));
     }
 
--- `is_among` returns true if the source and the target of the transition e are less than n, and the label of e is
--- valid.
+-- `is_among` returns true if the source and the target of the transition e are less than the number n, and the label of
+-- e is valid.
 abbrev pub is_among : ℕ → Transition → Bool
 is_among n e = and_then (ltb e.source n) (λ _. and_then (is_label e.label) (λ _. ltb e.target n))
 

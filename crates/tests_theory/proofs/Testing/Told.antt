@@ -1,6 +1,6 @@
 -- A census lists which states of a system are bisimilar, and which states are leaders (states that represent their
--- classes). This file has censuses of the example systems, for strong and for branching bisimilarity. The function
--- `is_census` checks that a census is correct.
+-- classes). This file contains censuses of example systems, some for strong bisimilarity and some for branching
+-- bisimilarity. The function `is_census` checks that a census is correct.
 use Rattle.std.proofs.Common.{[], ◌∷◌, slice_index}
 use Rattle.tests_theory.proofs.Testing.Census.{Census}
 

@@ -14,8 +14,8 @@ use Rattle.arguments.specs.Arguments.{IsWholeIn}
 use Rattle.arguments.specs.Arguments.{program_app}
 use Rattle.arguments.proofs.arguments.command.Goals as goal
 
--- The contracts of `clap` apply to the description of the command line, because the description is simple enough
--- (`is_simple`).
+-- The contracts of `clap` hold only for simple descriptions of a command line (`is_simple`). This lemma says that the
+-- description of the command line is simple.
 simple : is_simple program_app ≡ true
 simple = refl
 
@@ -23,8 +23,8 @@ free : is_simple_and_free program_app ≡ true
 free = refl
 
 -- Suppose that `clap` accepts the arguments, and that f is an error in making a job (a subcommand with its options)
--- from the values that `clap` finds. Suppose also that f is an unknown relation or a failed allocation whenever `clap`
--- has found all mandatory arguments. Then the contract of `command` allows the error f.
+-- from the values that `clap` finds. Suppose also that, if `clap` has found all mandatory arguments, f reports an
+-- unknown relation or a failed allocation. Then the contract of `command` allows the error f.
 taken_fault : (words : List Text) (f : WordFault) → AreTaken words → IsFaultIn (subcommand_of program_app words) f →
     (IsWholeIn (subcommand_of program_app words) → IsFaultOfAJob f) → IsFaultOf words f
 taken_fault words (fault.Relation named) taken is asked = (taken, is)
@@ -39,8 +39,8 @@ taken_error words (Ok job) taken is asked = tt
 taken_error words (Err f) taken is asked = taken_fault words f taken is asked
 
 -- The contract of `clap` says that an error kind is in a list (`IsAmong`). The contract of `command` says that some
--- element of a list has a property (`Any`). The lemma connects both: if `kind` is in the list `kinds` and has the
--- property P, then some element of `kinds` has the property P.
+-- element of a list has a property (`Any`). The lemma connects these two statements: if `kind` is in the list `kinds`
+-- and has the property P, then some element of `kinds` has the property P.
 some_kind : (P : ErrorKind → Type 0) (kind : ErrorKind) (kinds : List ErrorKind) →
     IsAmong kind kinds → P kind → Any P kinds
 some_kind P kind [] among holds = elim among [ ]

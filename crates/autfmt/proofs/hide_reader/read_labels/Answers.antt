@@ -59,7 +59,8 @@ returns-in_err-at_end g c =
     (hide_end_failed last so_far _ _ (omega arith) c.in_err-at_end.ensures.failures
     (λ over. let a = c.is_at_end.ensures.over over in let b = c.in_err-at_end.was in cc) none))
 
--- If the function `is_at_end` has returned true, then it has not returned false: the same result cannot be both values.
+-- If the function `is_at_end` has returned true, then it has not returned false, because its result cannot have both
+-- values.
 not_both : {E : Type 0} (r : Result Bool E) (at_end : Bool) → r ≡ Ok true → r ≡ Ok at_end → at_end ≡ false → ⊥
 not_both r at_end found was not = cc
 

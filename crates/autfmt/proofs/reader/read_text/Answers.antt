@@ -18,13 +18,13 @@ returns-in_err-held-clause-whole g c =
     rw (exit.1, exit.2)
     (takes_more _ _ _ _ _ _ first.given bytes first.took took (step c.args.lim.now first.given first.outcome))
 
--- `front` has the bytes that were read from the source (the object from which the input is read) before the reader
+-- `front` contains the bytes that were read from the source (the object from which the input is read) before the reader
 -- tests whether the input has ended.
 abbrev front : (g : Over) (c : After-is_at_end g) → List ℕ
 front g c = c.in_ok-promise.ensures.header.given ++ c.in_ok-held.ensures.transitions.0
 
--- `transitions` proves that a list of transitions has been read from the bytes `front`. These are all bytes that were
--- read before the reader tests whether the input has ended.
+-- `transitions` proves that a list of transitions has been read from the bytes `front`. The bytes `front` are all bytes
+-- that were read before the reader tests whether the input has ended.
 transitions : (g : Over) (c : After-is_at_end g) → (es : List Transition)
     × HeldSoFar c.args.lim.now c.args.h.now (front g c) c.in_ok-promise.promise
     (c.read_transitions.new.cutter, c.in_ok-held.held) es

@@ -4,8 +4,8 @@ use Rattle.inert.proofs.component.intern_items.Goals as goal
 use Rattle.inert.proofs.component.intern_items.Goals.{After-deref}
 
 -- A strongly connected component of inert transitions collects items. An item is a pair (label ID, block) or a
--- signature ID. The list `pairs` has exactly the pairs among the items. The list `signature_ids` was sorted, and its
--- duplicates were removed. It still has exactly the signature IDs among the items.
+-- signature ID. The list `pairs` contains exactly the pairs among the items. The list `signature_ids` was sorted, and
+-- its duplicates were removed. The list `signature_ids` still contains exactly the signature IDs among the items.
 taken : (c : goal.After-deref) → AreCollected c.args.items.now c.deref.result.now c.collect.new.pairs.items
 taken c = rw (c.deref.ensures.value) (taken_ordered _ _ _ _ _ c.in_ok-collect.ensures
     c.sort_unstable.ensures.permutation c.dedup.ensures.filtered)

@@ -17,7 +17,7 @@ loop-k-preserved-then-not-is_own c = record {
       (λ own. both_ways _ c.if-not-is_own.true (c.is_own.ensures.1 own));
 }
 
--- After the call of `swap`, the vector `pairs` has the result of the last merge.
+-- After the call of `swap`, the vector `pairs` contains the result of the last merge.
 pub loop-k-preserved : goal.loop-k-preserved
 loop-k-preserved c =
     let is : c.swap.new.y.items ≡ merged c.of-list.result.extra.now c.loop-k.pairs.items = search rules in

@@ -23,10 +23,10 @@ with-requires-in-Halved t c =
     let both = (parts_both is.pairs c.requires.ascending c.requires.fit).1 in
     (omega (arith, less), (omega (arith, is.list.second, grow.longer), both))
 
--- The split point of the union of the list with the ID `k` and the list `pairs` is the number at which the union is
--- divided into two halves. The lower part of each of the two lists has the pairs that are less than this number, and
--- the upper part has the other pairs. The first half of the union is the union of the two lower parts, and the second
--- half is the union of the two upper parts.
+-- The union of the list with the ID `k` and the list `pairs` is divided into two halves at a number. The lower part of
+-- each of the two lists contains the pairs whose numbers (`pair_value`) are less than this number, and the upper part
+-- contains the other pairs. The first half of the union is the union of the two lower parts, and the second half is the
+-- union of the two upper parts.
 united_in : (t : ℕ) (c : In_ok-above-in-Halved t) → AreUnited c.with-in-Halved.new.trie (record {
   below = c.in_ok-below-in-Halved.below;
   above = c.in_ok-above-in-Halved.above;

@@ -1,6 +1,7 @@
--- The contract states that four systems are not quotients. One of these systems contains a transition twice, and a
--- quotient contains each transition only once. Each of the other three systems differs from the correct quotient, which
--- the lemma `is_quotient` determines.
+-- The contract states, for four pairs of systems, that the second system is not the quotient of the first system. In
+-- one pair, the second system contains a transition more than once, but a quotient contains each transition only once.
+-- In each of the other three pairs, the second system differs from the correct quotient, which is known from the lemma
+-- `is_quotient`.
 use Rattle.std.proofs.Common.{refl, lit<}
 use Rattle.theory.specs.declared.relation.Relation.TheVariants.{Strong, Branching}
 use Rattle.theory.specs.System.{internal}

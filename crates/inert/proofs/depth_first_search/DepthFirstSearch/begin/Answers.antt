@@ -20,9 +20,9 @@ pub step-step-requires-clause-room : goal.step-step-requires-clause-room
 step-step-requires-clause-room g c = let i = c.loop-k.invariant in
     omega (arith, c.requires.room, i.cost, i.begun.less, price_first c.args.lens.now.visited _ _ c.loop-k-test.true)
 
--- A visit is a counted read of a transition. Suppose that the search has just read a transition of its first state.
--- Then the number of visits that the search has made since it began is at most the number of transitions that needed a
--- visit and had an unvisited source when the search began.
+-- A visit is a read of a transition that the meter counts. Suppose that the search has just read a transition of its
+-- first state. Then the number of visits that the search has made since it began is at most the number of transitions
+-- that needed a visit and had an unvisited source when the search began.
 spent : (g : Over) (c : After-step-step g) → Costs (g.M.Meter.counted c.args.m.now)
     (g.M.Meter.counted c.step-step.new.m) 0 0 (unread (remaining c.args.lens.now) c.args.self.now.stages)
 spent g c = let i = c.loop-k.invariant in
@@ -37,9 +37,9 @@ loop-k-preserved g c = let i = c.loop-k.invariant in
     let one = price_one_more c.args.lens.now.visited _ _ i.begun.forward in
     grind (arith, common_steps, b, i.cost, c.step-step.ensures.visit, one)
 
--- This lemma covers the case in which the search has pushed its first state on the stack with a frame. The frame
--- records which outgoing transitions of the first state are still to be read. After the push, the search has processed
--- the transition at the place k (the index k in the list of all transitions).
+-- This lemma covers the case in which the search has pushed its first state on the stack, and has added a frame for
+-- this state. The frame records which outgoing transitions of the first state are still to be read. After the push, the
+-- search has processed the transition at the place k (the index k in the list of all transitions).
 pub returns-then-leads_on : goal.returns-then-leads_on
 returns-then-leads_on g c = let i = c.loop-k.invariant in
     let went = takes_framed c.invariants.ensures.laws c.invariants.ensures.lts i.same i.begun c.loop-k-test.true

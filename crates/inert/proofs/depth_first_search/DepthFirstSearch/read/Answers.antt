@@ -20,8 +20,8 @@ module _ (g : Over) (c : After-index g) where
   state = let on = on_stack c.requires.walks c.requires.some in
       grind (arith, common_steps, on, get_or_read, c.index.ensures, c.top_frame-frame.ensures, c.self.view_is)
 
-  -- A visit is a counted read of a transition. Reading the next transition takes 0 or 1 visits. This number is at most
-  -- the number of visits that the search still has to make.
+  -- A visit is a read of a transition that the meter counts. Reading the next transition takes 0 or 1 visits. This
+  -- number is at most the number of visits that the search still has to make.
   most : {w : Search} {k : ℕ} → Reads c.args.lens.now c.args.signatures.now c.args.self.now w k
       → Stays c.args.self.now w
       → k < c.top_frame-frame.result.end → price c.args.lens.now.visited k ≤ ahead c.args.lens.now w

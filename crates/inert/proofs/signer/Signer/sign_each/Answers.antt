@@ -17,8 +17,8 @@ module _ (g : Over) (c : After-new-lens g) where
 
   -- The depth-first search stores a status (unvisited, on the stack, or completed) for each state of the system. The
   -- status of a completed state contains the ID of its cached signature. The cached IDs satisfy a condition that
-  -- `sign_each` requires (`CachesBeside`). In particular, the cached ID is correct for each state that is not active
-  -- (not processed in this round) but shares a block with an active state.
+  -- `sign_each` requires (`CachesBeside`). In particular, if a state is not active (not processed in this round) but
+  -- shares a block with an active state, the cached ID of this state is the ID of its branching signature.
   had : CachesBeside c.new-lens.result.l c.new-lens.result.blocks c.active-active.result.now c.args.signatures.now
       (cached c.self.inside.search.stages)
   had = rw (is, c.active-active.ensures.active, c.self.view_is) c.requires.cached

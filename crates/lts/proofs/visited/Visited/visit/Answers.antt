@@ -5,9 +5,9 @@ use Rattle.lts.proofs.visited.Visited.visit.Given.{Over}
 use Rattle.lts.proofs.visited.Visited.visit.Goals as goal
 use Rattle.lts.proofs.visited.Visited.visit.Goals.{then-word-len+in_ok-widen, else-word-len, After-push}
 
--- The bit set has one bit for each place (index of a transition). The function `visit` calls `widen` if the bit set has
--- no word with the bit of the place k. Afterwards the bit set has this word, and the set of visited places has not
--- changed.
+-- The bit set assigns one bit to each place (index of a transition). The function `visit` calls `widen` if the bit set
+-- has too few words to contain the bit of the place k. Afterwards the bit set contains the bit of k, and the set of
+-- visited places has not changed.
 wide : (g : Over) (c : After-push g) → let now = c.if-word-len.self-inside in
     (now.places.items ≡ c.self.inside.places.items)
     × ((k : ℕ) → slice_index_or now.words.items k 0 ≡ slice_index_or c.self.inside.words.items k 0)

@@ -6,13 +6,13 @@ use Rattle.signatures.proofs.Joining.{Grow-twice, same_as}
 use Rattle.signatures.proofs.Numbering.{AreExtended-grow, Grow-lists}
 use Rattle.signatures.proofs.interner.Interner.join.Goals as goal
 
--- Suppose that the last of the lists with an ID in `lists` has all pairs of the other lists, and all pairs in `pairs`.
--- Then this last list is the union of all these lists and of `pairs`.
+-- Suppose that the last of the lists with an ID in `lists` contains all pairs of the other lists, and all pairs in
+-- `pairs`. Then this last list is the union of all these lists and of `pairs`.
 pub returns-in-Some-clause-exactly : goal.returns-in-Some-clause-exactly
 returns-in-Some-clause-exactly c z = rw c.deref.ensures.value at (c.in-Some.ensures.exactly z)
 
 -- The call of `union_of` may add lists to the trie, which stores lists of pairs that other lists can share. The lists
--- of the interner stay the same.
+-- of the interner nevertheless stay the same.
 pub invariant_of-self : goal.invariant_of-self
 invariant_of-self c = AreExtended-grow c.union_of.ensures.grow _ _ c.self.invariant
 
@@ -20,8 +20,8 @@ pub returns-in_err-base-clause-grow : goal.returns-in_err-base-clause-grow
 returns-in_err-base-clause-grow c =
     rw (← c.self.view_is) (Grow-lists c.union_of.ensures.grow _ c.self.invariant.each)
 
--- The union is given as a base, which is a list of pairs that several lists can share, and as extra pairs, which the
--- base lacks. The call of `intern_with` interns the union.
+-- The union is given in two parts: its base, which is a list of pairs that several lists can share, and its extra
+-- pairs, which are all other pairs of the union. The call of `intern_with` interns the union.
 pub intern_with-requires-clause-extensions : goal.intern_with-requires-clause-extensions
 intern_with-requires-clause-extensions c = AreExtended-grow c.union_of.ensures.grow _ _ c.self.invariant
 

@@ -22,8 +22,8 @@ pub is_same-requires-clause-other : goal.is_same-requires-clause-other
 is_same-requires-clause-other c = IsExtension-grow c.loop-r.invariant.grow _ c.requires.list
 
 -- The search compares the given list with the list with the ID `r`. During the search, lists may be added to the trie,
--- which stores lists of pairs that other lists can share. Nevertheless, the list with the ID `r` has the same pairs as
--- at the start of the call.
+-- which stores lists of pairs that other lists can share. Nevertheless, the list with the ID `r` contains the same
+-- pairs as at the start of the call.
 list_r : (c : After-of) → list_at (extended_lists c.args.bases.now.trie c.args.self.now.extensions) c.loop-r.r
     ≡ extended c.loop-r.bases.trie (parts_of c.of.result)
 list_r c =

@@ -27,8 +27,10 @@ returns-in-Some-clause-list c =
     let found = rw c.in-Some.is at c.in_ok-id.ensures.found in
     rw (lists-grow c.find.ensures.grow _ c.requires.extensions.each) found.2
 
--- A list is stored as a base, which is a list of pairs that several lists can share, and as extra pairs, which the base
--- lacks. At this point, the base of the given list is not the empty list, or the given list has extra pairs.
+-- A list is stored in two parts: its base, which is a list of pairs that several lists can share, and its extra pairs,
+-- which are all other pairs of the list. If the given list has the empty list as its base, and has no extra pairs, the
+-- function returns at once. So after this test, the base of the given list is not the empty list, or the given list has
+-- extra pairs.
 not_both : (c : In_ok-id-2) → c.args.list.base ≡ 0 → c.args.list.extra.now ≡ [] → ⊥
 not_both c = search rules
 

@@ -8,15 +8,15 @@ use Rattle.signatures.proofs.UnionCache.{IsUnion-swap}
 use Rattle.signatures.proofs.unions.Bases.+both.Goals as goal
 use Rattle.signatures.proofs.unions.Bases.+both.Goals.{In_ok-above, In_ok-i}
 
--- If the list with the ID `j` or the list with the ID `k` is stored as a range of pairs, the call `with_list` computes
--- the union.
+-- If the list with the ID `j` or the list with the ID `k` is stored as a range of pairs, the call of `with_list`
+-- computes the union of the two lists.
 pub returns-in_default-shape-clause-union : goal.returns-in_default-shape-clause-union
 returns-in_default-shape-clause-union t c =
     IfOk-weaker c.with_list-in_default-shape.result _ _ (λ i. IsUnion-swap) c.with_list-in_default-shape.ensures.union
 
 -- Suppose that the lists with the IDs `j` and `k` are both stored as two halves. Then the function divides each of
--- these two lists into two parts, and calls itself for the two lower parts and for the two upper parts. The two parts
--- of each recursive call have fewer pairs together than the lists with the IDs `j` and `k` together.
+-- these two lists into two parts, and calls itself for the two lower parts and for the two upper parts. In each
+-- recursive call, the two parts together have fewer pairs than the lists with the IDs `j` and `k` together.
 pub both-requires : goal.both-requires
 both-requires t c =
     let is = c.pieces_of_both-cut.ensures _ c.invariants.ensures.stored c.in-Halved.ensures c.in-Halved-shape.ensures in
@@ -30,10 +30,10 @@ both-requires-2 t c =
     (parted_grown grow grow is.second c.requires.second) is.cut in
     omega (arith, less, grow.longer, is.first.second, is.second.second)
 
--- The split point of the union of the lists with the IDs `j` and `k` is the number at which the union is divided into
--- two halves. The lower part of each of the two lists has the pairs that are less than this number, and the upper part
--- has the other pairs. The first half of the union is the union of the two lower parts, and the second half is the
--- union of the two upper parts.
+-- The union of the lists with the IDs `j` and `k` is divided into two halves at a number. The lower part of each of the
+-- two lists contains the pairs whose numbers (`pair_value`) are less than this number, and the upper part contains the
+-- other pairs. The first half of the union is the union of the two lower parts, and the second half is the union of the
+-- two upper parts.
 united_in : (t : ℕ) (c : In_ok-above t) → AreUnited c.both-2.new.self.trie
     (record { below = c.in_ok-below.below; above = c.in_ok-above.above; cut = c.pieces_of_both-cut.result.cut })
     (list_at c.args.self.now.trie c.args.j) (list_at c.args.self.now.trie c.args.k)
@@ -51,8 +51,8 @@ united_in t c =
 pub intern-requires : goal.intern-requires
 intern-requires t c = (united_in t ((goal.at.intern-requires t c).In_ok-above)).0
 
--- The list that is interned is the union of the lists with the IDs `j` and `k`, so that its ID can be stored in the
--- union cache.
+-- The list that is interned is the union of the lists with the IDs `j` and `k`. So the ID of this list can be stored in
+-- the union cache, which is a hash table of unions that were computed before.
 module _ (t : ℕ) (c : In_ok-i t) where
   grown : Grow c.args.self.now.trie c.intern.new.self
   grown = Grow-twice (Grow-twice c.both.ensures.grow c.both-2.ensures.grow) c.intern.ensures.grow

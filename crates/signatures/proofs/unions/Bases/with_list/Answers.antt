@@ -6,7 +6,7 @@ use Rattle.signatures.proofs.UnionCache.{if_both}
 use Rattle.signatures.proofs.unions.Bases.with_list.Goals as goal
 use Rattle.signatures.proofs.unions.Bases.with_list.Goals.{After-deref}
 
--- At this point, the vector `held` has the pairs of the list with the ID `few`.
+-- Before the call of `with`, the vector `held` contains the pairs of the list with the ID `few`.
 held_is : (c : After-deref) → c.deref.result.now ≡ list_at c.args.self.now.trie c.args.few
 held_is c = search rules
 
