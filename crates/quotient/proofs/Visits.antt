@@ -15,9 +15,10 @@ pub IfOk-both : {T E : Type 0} (result : Result T E) (P Q : T → Type 0) → If
 IfOk-both (Ok x) P Q p q = (p, q)
 IfOk-both (Err e) P Q p q = tt
 
--- A visit is a read of a transition that the meter counts. Suppose that a minimisation makes r rounds of refinement,
--- each of which makes as many visits as there are transitions. Suppose that the minimisation then makes two passes over
--- the transitions. Then the numbers of rounds and visits are within the bounds for a minimisation (`StaysWithin`).
+-- A visit is a read of a transition that the meter counts. Suppose that the meter has counted nothing before. Suppose
+-- that a minimisation makes r rounds of refinement, each of which makes as many visits as there are transitions, and
+-- that r is at most the number of states. Suppose that the minimisation then makes at most two passes over the
+-- transitions. Then the numbers of rounds and visits are within the bounds for a minimisation (`StaysWithin`).
 pub minimised_keeps : {T E : Type 0} {old one at : Counts} (states k r : ℕ) (result : Result T E) → IsFresh old →
     r ≤ states → Costs old one r (r * k) (r * k) → Costs one at 0 0 (quotient_passes * k) →
     StaysWithin states k quotient_passes at (on_ok result (at.rounds * k))

@@ -56,8 +56,9 @@ equal_represented l P Q xs ys in_p in_q of_p of_q = (
       grind (arith, of_p.1 z.0 z.1, of_q.1 z.0 z.1, is)),
 )
 
--- Suppose that the list xs stores the signature of the state s, and that the list ys stores the signature of the state
--- t (`IsSignature`). Then xs and ys are equal if and only if the signatures of s and t are equal.
+-- Suppose that the label of each step is in the label table (`Labelled`). Suppose that the list xs stores the signature
+-- of the state s, and that the list ys stores the signature of the state t (`IsSignature`). Then xs and ys are equal if
+-- and only if the signatures of s and t are equal.
 pub equal_lists : (rel : Relation) (l : Grouped) (labelled : Labelled l) (blocks : List ℕ) (s t : ℕ)
     (xs ys : List (ℕ × ℕ)) → IsSignature rel l blocks s xs → IsSignature rel l blocks t ys
     → (xs ≡ ys) ↔ SameSignature rel (system_of l) (slice_index blocks) s t

@@ -8,8 +8,9 @@ use Rattle.refine_core.specs.Signatures.{list_of, HaveSignatures}
 use Rattle.partition.specs.Splitting.{Splits}
 
 -- Suppose that the list `signature_ids` contains the ID of an interned signature for each of the n states. Suppose that
--- further elements are appended to this list. Then the list of the first n elements of the longer list contains the ID
--- of an interned signature for each state (`HaveSignatures`).
+-- the list contains the ID of the empty signature for each state that is not active (not processed by the round).
+-- Suppose that further elements are appended to this list. Then the first n elements of the longer list satisfy these
+-- two conditions, too (`HaveSignatures`).
 pub written_back : (of active : List ℕ) (signatures : List (List (ℕ × ℕ))) (signature_ids rest : List ℕ) (n : ℕ)
     → AreIds signatures signature_ids → InactiveHaveNone active signature_ids
     → length signature_ids ≡ length of → length signature_ids ≡ n

@@ -137,13 +137,14 @@ pub record MarksFound (states : ℕ) (at : Affected) : Type 0 where
   pub size : length at.marks.items ≡ states
   pub marked : AreMarked at.marks.items at.states.items
 
--- `SearchIsOn` holds while a search is in progress. The record `at` contains the predecessor index, the marks of the
--- states, and the states that were found so far. The predecessor index, which stores the transitions that lead to each
--- state, must be correct (`IsIndex`). Exactly the found states must be marked. The list `xs` must contain the places
--- (indices) of the transitions that were visited so far. A visit is a read of a transition that the meter counts. The
--- meter must have counted one visit for each place in `xs`. The record `start` contains the counts of the meter when
--- the search began, and `now` contains the present counts of the meter. When the search began, the meter must have had
--- room for one visit of each transition.
+-- `SearchIsOn` holds while a search is in progress. The list `of` must contain the block ID of each state. The record
+-- `at` contains the predecessor index, the marks of the states, and the states that were found so far. The predecessor
+-- index, which stores the transitions that lead to each state, must be correct (`IsIndex`). Exactly the found states
+-- must be marked. The list `xs` must contain the places (indices) of the transitions that were visited so far, and must
+-- contain no place twice. A visit is a read of a transition that the meter counts. Since the search began, the meter
+-- must have counted one visit for each place in `xs`, and no round. The record `start` contains the counts of the meter
+-- when the search began, and `now` contains the present counts of the meter. When the search began, the meter must have
+-- had room for one visit of each transition.
 pub record SearchIsOn (l : Grouped) (of : List ℕ) (rel : Relation) (start now : Counts) (at : Affected) (xs : List ℕ) :
     Type 0 where
   pub blocks : length of ≡ l.states

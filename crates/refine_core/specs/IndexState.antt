@@ -28,13 +28,14 @@ abbrev pub OthersKeepSignatures : Relation → Grouped → Option (List ℕ) →
 OthersKeepSignatures rel l old p = (s : ℕ) → s < l.states → IsMember p.active s ⊎ IsSingleton p.block_ids s
     ⊎ IsAsBefore rel l old p.block_ids s
 
--- `Awaits` holds if r, the data of a round (`Signed`), is ready for a new round. The field `old` contains the block IDs
--- of all states in the last round, or is `None` if no round has run yet. If a round has run, the blocks of r must
--- result from splitting the blocks of the last round (`Follows`). If no round has run yet, all blocks must count as new
--- for strong bisimilarity. If there is no predecessor index, each state must be active (processed by the round), be in
--- a singleton block, or have no outgoing transition. If there is a predecessor index, it must be an index of the system
--- `l` (`HasIndex`). If there is a predecessor index, a round must have run before, and for branching bisimilarity, the
--- signatures of the last round must be cached (`CachesIds`).
+-- `Awaits` holds if r, the data of a round (`Signed`), is ready for a new round. The data r must contain the block ID
+-- of each state of the system `l`. The field `old` contains the block IDs of all states in the last round, or is `None`
+-- if no round has run yet. If a round has run, the blocks of r must result from splitting the blocks of the last round
+-- (`Follows`). If no round has run yet, all blocks must count as new for strong bisimilarity. If there is no
+-- predecessor index, each state must be active (processed by the round), be in a singleton block, or have no outgoing
+-- transition. If there is a predecessor index, it must be an index of the system `l` (`HasIndex`). If there is a
+-- predecessor index, a round must have run before, and for branching bisimilarity, the signatures of the last round
+-- must be cached (`CachesIds`).
 pub record Awaits (rel : Relation) (l : Grouped) (r : Signed) : Type 0 where
   pub states : length r.blocks.block_ids ≡ l.states
   pub old : Option (List ℕ)
@@ -50,8 +51,8 @@ pub record Awaits (rel : Relation) (l : Grouped) (r : Signed) : Type 0 where
 -- is neither active nor in a singleton block must have the same signature as in the last round. For branching
 -- bisimilarity, the signatures of the last round must be cached (`CachesIds`). If `old` is `None`, no round has run
 -- yet, or all signatures have been discarded since the last round. If `old` is `None`, the signature of each state in
--- the last round is taken to be empty, and for branching bisimilarity, the cached signature of each state must be
--- empty.
+-- the last round is taken to be empty. In this case, all blocks must count as new for strong bisimilarity, and the
+-- cached signature of each state must be empty for branching bisimilarity.
 pub record IsReadyToSign (rel : Relation) (l : Grouped) (old : Option (List ℕ)) (r : Signed) : Type 0 where
   pub others : OthersKeepSignatures rel l old r.blocks
   pub follows : Follows rel l old r.blocks.block_ids r.blocks.first_new

@@ -20,13 +20,14 @@
 //! A singleton block is a block with one state. In the first round, the active states are all states that have an
 //! outgoing transition and are not in a singleton block. Whenever the number of singleton blocks has grown by more than
 //! 1/32 of the number of active states since states were last dropped, the states in singleton blocks are dropped from
-//! the active states. A round is late if fewer than a quarter of the blocks are new. The place of a transition is its
-//! index in the list of all transitions. For each state, the predecessor index (`lts::Incoming`) stores the places of
-//! the transitions that lead to this state. This index is built when the late rounds together have done as much work as
-//! a few rounds over all states would do (`SignedBlocks::needs_index`). Up to this time, the late rounds have taken at
-//! most about twice as long as building the index takes. After the index has been built, each later round begins with a
-//! search that goes backwards from the states of new blocks (`predecessors`). There is one exception, which is
-//! described below. In the following example, a is a label, and i is the internal label:
+//! the active states. A round is late if the number of new blocks is less than a quarter of the number of all blocks,
+//! rounded down. The place of a transition is its index in the list of all transitions. For each state, the predecessor
+//! index (`lts::Incoming`) stores the places of the transitions that lead to this state. This index is built when the
+//! late rounds together have done as much work as a few rounds over all states would do (`SignedBlocks::needs_index`).
+//! Up to this time, the late rounds have taken at most about twice as long as building the index takes. After the index
+//! has been built, states are no longer dropped. Instead, each later round begins with a search that goes backwards
+//! from the states of new blocks (`predecessors`). There is one exception, which is described below. In the following
+//! example, a is a label, and i is the internal label:
 //!
 //! ```text
 //! block   0     0     0     0     0     2     1       first_new = 2: state 5 is in a new block

@@ -65,7 +65,8 @@ pub struct SignedBlocks {
     pub(crate) index: Option<Predecessors>,
     pub(crate) visited: Visited,
     /// If more signatures than this number are stored after a round, the next round begins by discarding all
-    /// signatures. Before the predecessor index is built, this number is the largest `u32`.
+    /// signatures. Before the predecessor index is built, this number is `u32::MAX`, so that no round discards its
+    /// signatures because of this limit.
     pub(crate) most_signatures: u32,
     /// The total work of all late rounds that were made without a predecessor index. A round is late if few blocks are
     /// new. The method `needs_index` defines the work of a late round as a number.
@@ -227,8 +228,9 @@ impl SignedBlocks {
     }
 
     /// Returns whether this round has to build the predecessor index. A block is new if the last split has made it, and
-    /// a round is late if fewer than a quarter of the blocks are new. The work of a late round without an index is the
-    /// number of states that it processes, plus the number of blocks divided by `BLOCKS_PER_STATE`.
+    /// a round is late if the number of new blocks is less than a quarter of the number of all blocks, rounded down.
+    /// The work of a late round without an index is the number of states that it processes, plus the number of blocks
+    /// divided by `BLOCKS_PER_STATE`.
     ///
     /// Let n be half of the average number of transitions of a state, rounded down, but at most `MOST_FULL_ROUNDS`. A
     /// late round has to build the index if the work of all late rounds before it is at least n times the number of all

@@ -119,8 +119,8 @@ pub(crate) fn sign_and_visit_rest<S: Signing, M: Meter>(
 /// have an outgoing transition and are not in a singleton block (`SignedBlocks::activate_all`). Otherwise, if there is
 /// a predecessor index, the function searches this index for the active states (`SignedBlocks::find_active`). If there
 /// is no predecessor index, the active states stay the same. In this case, the function calls
-/// `Signing::discard_cached`, and builds the index if the late rounds have done enough work
-/// (`SignedBlocks::begin_index`).
+/// `Signing::discard_cached`, and builds the index if this round is late (if few blocks are new) and the earlier late
+/// rounds have done enough work (`SignedBlocks::begin_index`).
 pub(crate) fn begin_round<S: Signing, M: Meter>(
     l: &Lts<M>,
     round: SignedBlocks,

@@ -103,7 +103,8 @@ impl Interner {
     }
 
     /// Interns the list `pairs`: returns the ID of the stored list that is equal to `pairs`. If there is no such list,
-    /// the call adds `pairs` as a new list, and returns the ID of this new list.
+    /// the call adds `pairs` as a new list, and returns the ID of this new list. The pairs must be in strictly
+    /// ascending order.
     pub fn push(&mut self, pairs: &[(u32, u32)]) -> Result<u32, Memory>
         requires { IsStrictlySortedBy pair_cmp pairs.now }
         ensures within { IfOk result (λ k. k < length self.new) }
