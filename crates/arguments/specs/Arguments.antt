@@ -120,9 +120,9 @@ IsJobIn subcommand job = (name : Text) × (rows : List Row) × (subcommand ≡ S
 
 -- `IsFaultIn subcommand fault` states which errors are possible when a job (a subcommand with its options) is made from
 -- the subcommand that `clap` has found. There are three possible errors: the relation is unknown, the subcommand or a
--- mandatory argument is missing, or an allocation failed. The error for an unknown relation must contain the name of
--- the relation on the command line, and no relation may have this name. For the other two errors, the definition states
--- no condition.
+-- mandatory argument is missing, or an allocation failed. The error for an unknown relation must contain the name that
+-- was given on the command line, and this name must not be the name of a known relation. For the other two errors, the
+-- definition states no condition.
 abbrev pub IsFaultIn : Option (Text × List Row) → WordFault → Type 0
 IsFaultIn subcommand (fault.Relation named) = (name : Text) × (rows : List Row) × (subcommand ≡ Some (name, rows))
     × NamesNoRelation (relation_in rows) (fault.Relation named)

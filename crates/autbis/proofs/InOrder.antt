@@ -80,10 +80,10 @@ module _ {F : Type 0} {files : FilesUsed F} {first more : List Name} (mid : F)
 
   -- `IsGivenUp` holds if a job (the task that the command line asks for) ended early. The reason is that one of its
   -- files could not be opened, or that the hide list (the file with the labels to hide) could not be read. Suppose that
-  -- a sequence of calls opened all files in the list `first`, and closed no file from which a read had failed. Suppose
-  -- also that the job ended early in the calls after this sequence, in which the files in the list `more` were to be
-  -- opened and the hide list was to be read. Then `IsGivenUp` holds for the list `first ++ more` and the sequence of
-  -- all these calls.
+  -- a sequence of calls opened all files in the list `first`, and closed no file from which a read had failed. Further
+  -- calls were then to open the files in the list `more` and to read the hide list. Suppose also that `IsGivenUp` holds
+  -- for these further calls and the list `more`. Then `IsGivenUp` holds for all calls together and the list `first ++
+  -- more`.
   pub given_up_after : {hide : Option Name} {status : ℕ} → HasLostNone (record files { new = mid }) →
       IsGivenUp (record files { old = mid }) more hide status → IsGivenUp files (first ++ more) hide status
   given_up_after kept (inl other) = inl (refused_after other)

@@ -37,7 +37,7 @@ asks rel bounds H = record { relation = rel; bounds = bounds; hidden = H }
 -- after the call. For a source, the fields `before` and `after` are the bytes that remain to be read before and after
 -- the call. For a sink, `before` and `after` are the bytes that had been written to the sink before and after the call.
 -- The fields `before` and `after` are `None` if the contract of the source or sink does not state the bytes. The field
--- `failures` is the number of failures of the source or sink after the call.
+-- `failures` is the number of times that the source or sink has failed until the end of the call.
 pub record Used (T : Type 0) : Type 0 where
   pub old : T
   pub new : T
@@ -48,7 +48,7 @@ pub record Used (T : Type 0) : Type 0 where
 -- `used` makes a `Used` record, which describes the effect of a call on a source or on a sink. A source is an object
 -- from which an input is read, and a sink is an object to which an output is written. The function `tells` gives the
 -- bytes that remain to be read from a source, or the bytes that were written to a sink. The function `failures` gives
--- the number of failures of a source or sink.
+-- the number of times that a source or sink has failed so far.
 abbrev pub used : {T : Type 0} → (T → Option (List ℕ)) → (T → ℕ) → (old new : T) → Used T
 used tells failures old new =
     record { old = old; new = new; before = tells old; after = tells new; failures = failures new }

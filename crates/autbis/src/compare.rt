@@ -58,9 +58,9 @@ impl From<Memory> for CmpFault {
 /// # Errors
 ///
 /// - `Side::First` or `Side::Second`: no system could be read from the first or from the second input. The field
-///   `fault` of the error states the reason, which is one of the errors that `run_min` may return. Nothing was written
-///   or counted. If the first input has an error or cannot be read, the source `b` (the object from which the second
-///   input is read) is unchanged.
+///   `fault` of the error states the reason, which is one of the errors that `run_min` may return. In this case,
+///   `run_cmp` has written nothing to `w`, and the meter has not counted any rounds or visits. If the first input has
+///   an error or cannot be read, the source `b` (the object from which the second input is read) is unchanged.
 /// - `Side::Run` with `Memory`: an allocation failed, and nothing was written.
 /// - `Side::Run` with `Device`: the sink `w` failed, and a prefix of the line `TRUE` or `FALSE` was written.
 pub fn run_cmp<M: Meter, R1: Source, R2: Source, W: Sink>(

@@ -28,9 +28,9 @@ pub struct Counts {
 /// # Errors
 ///
 /// - One of the errors from `BadHeader` to `MissingEdges`: the input is incorrect, and this is its first error. Neither
-///   the source nor the sink has failed, and nothing was written or counted.
-/// - `Device`: the source or the sink failed. If the source failed, nothing was written or counted. If the sink failed,
-///   a prefix of the output was written.
+///   the source nor the sink has failed, nothing was written, and the meter has counted no rounds and no visits.
+/// - `Device`: the source or the sink failed. If the source failed, nothing was written, and the meter has counted no
+///   rounds and no visits. If the sink failed, a prefix of the output was written.
 /// - `Memory`: an allocation failed, which can happen only if line 1 is correct. Neither the source nor the sink has
 ///   failed, and nothing was written.
 pub fn run_min<M: Meter, R: Source, W: Sink>(

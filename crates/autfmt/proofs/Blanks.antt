@@ -39,7 +39,7 @@ after_blanks-cuts (b ∷ bs) =
 
 -- ---- Tokens after blanks
 
--- `IsToken bytes` holds if the bytes are not empty and do not begin with a blank.
+-- `IsToken bytes` holds if the list `bytes` is not empty and does not begin with a blank.
 abbrev pub IsToken : List ℕ → Type 0
 IsToken [] = ⊥
 IsToken (b ∷ bs) = is_blank b ≡ false

@@ -34,9 +34,9 @@ none_from view r read P e h = grind arith
 
 -- ---- It is decidable whether a line is a header, a transition, or a line of a hide list
 
--- Let `read` be the result of reading a line, and let P be a property of the values that a line can have. Suppose that
--- `read` is `Some y` if and only if the value y has the property P. Then it is decidable whether some value has the
--- property P.
+-- The result `read` of reading a line is `Some y` if the value y was read from the line, and `None` if the line could
+-- not be read. Let P be a property of values. Suppose that `read` is `Some y` if and only if the value y has the
+-- property P. Then it is decidable whether some value has the property P.
 decided : {Y : Type 0} (read : Option Y) (P : Y → Type 0) → ((y : Y) → read ≡ Some y → P y) →
     ((y : Y) → P y → read ≡ Some y) → ((y : Y) × P y) ⊎ ((y : Y) → ¬ P y)
 decided (Some y) P takes again = inl (y, takes y refl)

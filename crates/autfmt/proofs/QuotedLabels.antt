@@ -13,7 +13,7 @@ use Rattle.autfmt.specs.Grammar.{Blanks, Spaced}
 use Rattle.autfmt.specs.Reading.{last_quote, is_label, quoted_at}
 use Rattle.autfmt.proofs.PlainLabels.{bind_some, IsLabel-from_test, test-IsLabel}
 
--- `HasNoQuote bytes` holds if the bytes contain no quotation mark.
+-- `HasNoQuote bytes` holds if the list `bytes` contains no quotation mark.
 abbrev pub HasNoQuote : List ℕ → Type 0
 HasNoQuote bytes = AllByRecursion (λ b. (b == 34) ≡ false) bytes
 

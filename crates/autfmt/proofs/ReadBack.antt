@@ -124,7 +124,7 @@ spaced_header f m n =
     subst (Spaced (codes "des" ∷ codes "(" ∷ f ∷ codes "," ∷ m ∷ codes "," ∷ n ∷ codes ")" ∷ []))
     (simp append_assoc) nested.spaced
 
--- `IsLine line` holds if the bytes contain no line feed and are not too long for a line.
+-- `IsLine line` holds if the list `line` of bytes contains no line feed and is not too long for a line.
 record IsLine (line : List ℕ) : Type 0 where
   one : IsOneLine line
   short : IsShort line

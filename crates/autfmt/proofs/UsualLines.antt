@@ -98,15 +98,15 @@ quoted_in_front bytes inside a rest n room mark behind (within, closed) front ba
     let cut : inside ≡ a ++ 34 ∷ rest = cc (take-append-drop n inside) in
     (quoted a, inr (label, refl), begin ∙ rw (cut, quoted-append) refl)
 
--- If the function `plain_at` reads a plain label (a label without quotation marks), then the bytes begin with this
--- label.
+-- If the function `plain_at` reads a plain label (a label without quotation marks) from the list `bytes`, then this
+-- list begins with the label.
 pub plain_in_front : (bytes a rest : List ℕ) → plain_at bytes ≡ Some (a, rest) → BeginsWithLabel bytes a rest
 plain_in_front bytes a rest e = let h = plain_at-takes bytes a rest e in (a, inl (h.0, refl), h.1)
 
 -- ---- Whole lines
 
--- `IsComma bytes rest` holds if the bytes begin with a comma and at most one space, and `rest` are the bytes after
--- them.
+-- `IsComma bytes rest` holds if the list `bytes` begins with a comma and at most one space, and `rest` are the bytes
+-- after these characters.
 record IsComma (bytes rest : List ℕ) : Type 0 where
   space : List ℕ
   blank : Blanks space
@@ -119,8 +119,8 @@ is_comma bytes rest (inl e) = grind arith
 is_comma bytes rest (inr e) =
     record { space = codes " "; blank = a_space; seen = literal (codes " ") refl; short = omega arith; parts = e }
 
--- `IsEnd bytes rest` holds if the bytes begin with a closing parenthesis, at most one blank and a line feed, and `rest`
--- are the bytes after them.
+-- `IsEnd bytes rest` holds if the list `bytes` begins with a closing parenthesis, at most one blank and a line feed,
+-- and `rest` are the bytes after these characters.
 record IsEnd (bytes rest : List ℕ) : Type 0 where
   blanks : List ℕ
   blank : Blanks blanks
@@ -160,14 +160,14 @@ transition_in_front bytes r0 r1 r2 r3 r4 r5 r6 s a t e0 source e1 (spelling, lab
       short = search (rules, spelled_line-short, b.space, d.space, z.blanks, b.short, d.short, z.short);
     }
 
--- The line splitter (`Cutter`) divides the input into lines. If the bytes begin with the line of a transition
+-- The line splitter (`Cutter`) divides the input into lines. If the list `bytes` begins with the line of a transition
 -- (`BeginsWithTransition`), `behind` is the state of the line splitter after it has split off this line.
 abbrev pub behind : {bytes : List ℕ} {s : ℕ} {a : List ℕ} {t : ℕ} {rest : List ℕ} →
     BeginsWithTransition bytes s a t rest → Cutting
 behind {rest = rest} front = record { line = front.line; ahead = rest; over = false }
 
--- If the bytes begin with the line of a transition, the line splitter can split off this line without reading further
--- bytes from the source (the object from which the input is read).
+-- If the list `bytes` begins with the line of a transition, the line splitter can split off this line without reading
+-- further bytes from the source (the object from which the input is read).
 pub cuts_in_front : (bytes : List ℕ) (s : ℕ) (a : List ℕ) (t : ℕ) (rest : List ℕ) →
     (front : BeginsWithTransition bytes s a t rest) → CutsLine (bytes ++ []) (behind front)
 cuts_in_front bytes s a t rest front = search rules

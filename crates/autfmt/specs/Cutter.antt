@@ -70,9 +70,9 @@ IsPart bytes = IsOneLine bytes × IsShort bytes
 
 -- `Feeds rest failures at` holds if the line splitter in the state `at` may still read from its source (the object from
 -- which the input is read). The argument `rest` contains the bytes that are still to be read from the source, or is
--- `None` if these bytes are not known. The argument `failures` is the number of failures of the source. `Feeds`
--- requires that the source has not failed. If the line splitter has reached the end of the source (`at.over`), `Feeds`
--- also requires that `rest` contains no bytes.
+-- `None` if these bytes are not known. The argument `failures` is the number of times that the source has failed so
+-- far. `Feeds` requires that the source has not failed. If the line splitter has reached the end of the source
+-- (`at.over`), `Feeds` also requires that `rest` contains no bytes.
 pub record Feeds (rest : Option (List ℕ)) (failures : ℕ) (at : Cutting) : Type 0 where
   pub sound : failures ≡ 0
   pub end : IsTrue at.over → IsAtEnd rest

@@ -42,9 +42,10 @@ pub data EdgeFault (n k : ℕ) (line : List ℕ) (fault : Fault) : Type 0 where
       EdgeFault n k line fault
 
 -- `BeginsWell bounds text m n es others` holds if the input `text` consists of the following lines. The first line is a
--- correct header within the limits `bounds`, which declares m transitions and n states. After the header, there is one
--- line for each transition in the list es. The sources and targets of these transitions are states of the system, which
--- are the numbers less than n. The remaining lines of the input are the lines in the list `others`.
+-- correct header. This header declares m transitions and n states, and these two numbers are within the limits
+-- `bounds`. After the header, there is one line for each transition in the list es. The sources and targets of these
+-- transitions are states of the system, which are the numbers less than n. The remaining lines of the input are the
+-- lines in the list `others`.
 pub record BeginsWell (bounds : Bounds) (text : List ℕ) (m n : ℕ) (es : List Transition) (others : List (List ℕ)) :
     Type 0 where
   pub header : List ℕ

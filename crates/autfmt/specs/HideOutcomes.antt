@@ -11,7 +11,7 @@ use Rattle.autfmt.specs.Outcomes.{Takes}
 -- `HideReadsTo given rest failures hidden` holds if all three of the following conditions hold. First, the bytes
 -- `given` are a whole hide list (the labels to hide), and the list `hidden` contains the labels of this hide list.
 -- Second, the source (the object from which the hide list is read) is at its end: no bytes are left in `rest`. Third,
--- the source has not failed: its number of failures, `failures`, is 0.
+-- the source has not failed: the number `failures` of times that it has failed so far is 0.
 pub record HideReadsTo (given : List ℕ) (rest : Option (List ℕ)) (failures : ℕ) (hidden : List (List ℕ)) : Type 0 where
   pub read : HidesAs given hidden
   pub at_end : IsAtEnd rest
@@ -35,8 +35,8 @@ pub data HideRefuses (given : List ℕ) (rest : Option (List ℕ)) (failures : �
 -- `HideAnswers old new failures result` holds if `result` is a correct result of reading a hide list from the source
 -- (the object from which the hide list is read). The arguments `old` and `new` are the bytes that are still to be read
 -- from the source before and after the call, or `None` if these bytes are not known. The argument `failures` is the
--- number of failures of the source after the call. If the call succeeded, `HideReadsTo` must hold for the labels that
--- it returned. If the call failed, `HideRefuses` must hold for the error.
+-- number of times that the source has failed until the end of the call. If the call succeeded, `HideReadsTo` must hold
+-- for the labels that it returned. If the call failed, `HideRefuses` must hold for the error.
 abbrev pub HideAnswers : Option (List ℕ) → Option (List ℕ) → ℕ → Result (List (List ℕ)) Fault → Type 0
 HideAnswers old new failures result =
     Takes old new (λ given. HideReadsTo given new failures) (λ given. HideRefuses given new failures) result

@@ -29,8 +29,8 @@ pub record IsWithin (bounds : Bounds) (s : Grouped) : Type 0 where
 -- `ReadsTo bounds H given rest failures s` holds if all four of the following conditions hold. First, the bytes `given`
 -- are a whole input that denotes a system within the limits `bounds`, and s is this system with the labels in the list
 -- H hidden. Second, each label in the label table of s is the label of some transition. Third, the source (the object
--- from which the input is read) is at its end: no bytes are left in `rest`. Fourth, the source has not failed: its
--- number of failures, `failures`, is 0.
+-- from which the input is read) is at its end: no bytes are left in `rest`. Fourth, the source has not failed: the
+-- number `failures` of times that it has failed so far is 0.
 pub record ReadsTo (bounds : Bounds) (H : List (List ℕ)) (given : List ℕ) (rest : Option (List ℕ)) (failures : ℕ)
     (s : Grouped) : Type 0 where
   pub read : ReadsAs bounds given H s
@@ -61,8 +61,8 @@ pub data Refuses (bounds : Bounds) (given : List ℕ) (rest : Option (List ℕ))
 -- `AnswersRead bounds H old new failures result` holds if `result` is a correct result of reading a system from the
 -- source (the object from which the input is read). The arguments `old` and `new` are the bytes that are still to be
 -- read from the source before and after the call, or `None` if these bytes are not known. The argument `failures` is
--- the number of failures of the source after the call. If the call succeeded, `ReadsTo` must hold for the system that
--- it returned. If the call failed, `Refuses` must hold for the error.
+-- the number of times that the source has failed until the end of the call. If the call succeeded, `ReadsTo` must hold
+-- for the system that it returned. If the call failed, `Refuses` must hold for the error.
 abbrev pub AnswersRead : Bounds → List (List ℕ) → Option (List ℕ) → Option (List ℕ) → ℕ → Result Grouped Fault → Type 0
 AnswersRead bounds H old new failures result =
     Takes old new (λ given. ReadsTo bounds H given new failures) (λ given. Refuses bounds given new failures) result

@@ -3,9 +3,10 @@ use Rattle.std.specs.Prelude.{ℕ, ◌-◌, List, ◌++◌, length, Option, opti
 use Rattle.autfmt.specs.Pieces.{capped}
 
 -- `Store` is the state of a sink (the object to which the output is written) that stores its bytes in memory. The field
--- `bytes` contains the bytes that were written, and `failures` is the number of failures. The field `count` is `None`,
--- or the number of bytes that all calls together can write: once the sink contains this number of bytes, each further
--- call fails. The field `most` is `None`, or the greatest number of bytes that one call can write.
+-- `bytes` contains the bytes that were written, and `failures` is the number of times that the sink has failed so far.
+-- The field `count` is `None`, or the number of bytes that all calls together can write: once the sink contains this
+-- number of bytes, each further call fails. The field `most` is `None`, or the greatest number of bytes that one call
+-- can write.
 pub record Store : Type 0 where
   pub bytes : List ℕ
   pub count : Option ℕ

@@ -3,9 +3,9 @@ use Rattle.std.specs.Prelude.{ℕ, ◌-◌, min, List, length, drop, Option, opt
 use Rattle.autfmt.specs.Pieces.{capped}
 
 -- `Supply` is the state of a source (the object from which the input is read) whose bytes are in memory. The field
--- `rest` contains the bytes that the source has not yet returned, and `failures` is the number of failures. If the
--- field `place` is a number, the source fails once it has returned this number of further bytes. If the field `most` is
--- a number, one call returns at most this number of bytes.
+-- `rest` contains the bytes that the source has not yet returned, and `failures` is the number of times that the source
+-- has failed so far. If the field `place` is a number, the source fails once it has returned this number of further
+-- bytes. If the field `most` is a number, one call returns at most this number of bytes.
 pub record Supply : Type 0 where
   pub rest : List ℕ
   pub place : Option ℕ

@@ -73,9 +73,9 @@ GainsPrefix A old new = (front back : List ℕ) × Text A (front ++ back) × App
 abbrev pub WritesText : {T E : Type 0} → System → Option (List ℕ) → Option (List ℕ) → Result T E → Type 0
 WritesText A old new result = MatchResult result (λ _. GainsText A old new) (λ _. GainsPrefix A old new)
 
--- `failures_after result` is the number of failures of a sink (the object to which the output is written) after a call
--- of `write` with this result: 1 if the result is the error `Device`, and 0 otherwise. The sink must not have failed
--- before the call.
+-- `failures_after result` is the number of times that a sink (the object to which the output is written) has failed
+-- until the end of a call of `write` with this result: 1 if the result is the error `Device`, and 0 otherwise. The sink
+-- must not have failed before the call.
 abbrev pub failures_after : {T : Type 0} → Result T Fault → ℕ
 failures_after (Err Device) = 1
 failures_after _ = 0

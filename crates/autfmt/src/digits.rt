@@ -10,9 +10,9 @@ ghost use lib.Lanes.{number_l};
 
 use std::simd::prelude::*;
 
-/// Returns the number of digits at the beginning of the bytes, and the number that these digits denote. The result is
-/// `None` in three cases: the bytes do not begin with a digit, they begin with more than seven digits, or there are
-/// fewer than eight bytes.
+/// Returns the number of digits at the beginning of `bytes`, and the number that these digits denote. The result is
+/// `None` in three cases: `bytes` does not begin with a digit, begins with more than seven digits, or contains fewer
+/// than eight bytes.
 #[inline(always)]
 pub(crate) fn digits_in_front(bytes: &[u8]) -> Option<(usize, u64)>
     ensures { IfSome result (λ x. AreDigitsInFront bytes.now x.0 x.1) }

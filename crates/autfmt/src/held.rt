@@ -123,9 +123,9 @@ impl Held {
     }
 }
 
-/// Returns the ID of a label in the label table. If the label is hidden, the function returns the ID of the internal
-/// label `i` instead. If the table does not contain the label yet, the function appends the label to the table. If the
-/// bytes are not a valid label, the result is `None`.
+/// Returns the ID of the label `label` in the label table. If the label is hidden, the function returns the ID of the
+/// internal label `i` instead. If the table does not contain the label yet, the function appends the label to the
+/// table. If `label` is not a valid label, the result is `None`.
 ///
 /// The function first looks up an ID in the table `shown` of the cache `Guesses`. This table stores one ID for all
 /// labels with the same hash. If the cached ID is the ID of the label, the label is already in the label table, and the

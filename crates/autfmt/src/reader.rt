@@ -25,10 +25,10 @@ use crate::usual::transition_in_front;
 use lts::{Lts, Memory, Meter};
 use std::alloc::Global;
 
-/// Reads a whole input as a system. The input must consist of a header with three numbers, followed by exactly as many
-/// transitions as the header declares. The numbers in the header must not exceed the limits `lim`. If the call
-/// succeeds, the source (the object from which the input is read) is at its end, and the label table of the system
-/// contains exactly the labels of the transitions.
+/// Reads an input to its end, and returns the system that the input describes. The input must consist of a header with
+/// three numbers, followed by exactly as many transitions as the header declares. The numbers in the header must not
+/// exceed the limits `lim`. If the call succeeds, the source (the object from which the input is read) is at its end,
+/// and the label table of the system contains exactly the labels of the transitions.
 ///
 /// # Errors
 ///
@@ -59,7 +59,7 @@ pub fn read<M: Meter, R: Source>(alloc: Global, r: &mut R, lim: &Limits) -> Resu
     read_system(alloc, r, lim, &Hidden::none(alloc))
 }
 
-/// Reads a whole input as `read` does, but replaces each label in the list `h` by the internal label `i`.
+/// Reads an input to its end as `read` does, but replaces each label in the list `h` by the internal label `i`.
 ///
 /// # Errors
 ///
@@ -90,7 +90,7 @@ pub fn read_hiding<M: Meter, R: Source>(
     read_system(alloc, r, lim, h)
 }
 
-/// Reads a whole input, and builds the system from the transitions.
+/// Reads an input to its end, and builds a system from its transitions.
 fn read_system<M: Meter, R: Source>(
     alloc: Global,
     r: &mut R,
@@ -110,7 +110,7 @@ fn read_system<M: Meter, R: Source>(
     Ok(system)
 }
 
-/// Reads a whole input. Returns the numbers that the header declares, and the transitions that were read.
+/// Reads an input to its end. Returns the numbers that the header declares, and the transitions that were read.
 fn read_text<R: Source>(
     alloc: Global,
     r: &mut R,

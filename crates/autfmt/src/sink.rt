@@ -20,7 +20,7 @@ pub trait Sink {
     // contract of the sink does not state these bytes.
     ghost written: { Self → Option (List ℕ) };
 
-    // The number of failures of the sink (the object to which the output is written).
+    // The number of times that the sink (the object to which the output is written) has failed so far.
     ghost failures: { Self → ℕ };
 
     /// Writes a prefix of `b` to the sink (the object to which the output is written). Returns the number of bytes that
@@ -28,8 +28,8 @@ pub trait Sink {
     ///
     /// # Errors
     ///
-    /// If the sink fails, the result is `Broken`. In this case, nothing was written. After this error, the number of
-    /// failures is 1 (`failures`).
+    /// If the sink fails, the result is `Broken`. In this case, nothing was written. After this error, the value of
+    /// `failures` is 1.
     fn put(&mut self, b: &[u8]) -> Result<usize, Broken>
         requires bytes { 0 < length b.now }
         requires sound { failures self.old ≡ 0 }
@@ -43,13 +43,14 @@ pub trait Sink {
     ///
     /// # Errors
     ///
-    /// If the sink fails, the result is `Broken`. After this error, the number of failures is 1 (`failures`).
+    /// If the sink fails, the result is `Broken`. After this error, the value of `failures` is 1.
     fn finish(&mut self) -> Result<(), Broken>
         requires { failures self.old ≡ 0 }
         ensures bytes { Keeps (written self.old) (written self.new) }
         ensures failures { CountsFailure result (failures self.new) };
 
-    /// Returns the number of failures of the sink (the object to which the output is written), which is 0 or 1.
+    /// Returns the number of times that the sink (the object to which the output is written) has failed so far, which
+    /// is 0 or 1.
     fn failures(&self) -> u32
         ensures failures { result ≡ failures self.now }
         ensures range { result ≤ 1 };

@@ -19,7 +19,7 @@ pub trait Source {
     // `None` if the contract of the source does not state these bytes.
     ghost rest: { Self → Option (List ℕ) };
 
-    // The number of failures of the source (the object from which the input is read).
+    // The number of times that the source (the object from which the input is read) has failed so far.
     ghost failures: { Self → ℕ };
 
     /// Takes the next bytes from the source (the object from which the input is read), and writes them to the beginning
@@ -28,7 +28,7 @@ pub trait Source {
     /// # Errors
     ///
     /// If the source fails, the result is `Broken`. In this case, the source returns no bytes and keeps all bytes that
-    /// it has not yet returned. After this error, the number of failures is 1 (`failures`).
+    /// it has not yet returned. After this error, the value of `failures` is 1.
     fn take(&mut self, buf: &mut [u8]) -> Result<usize, Broken>
         requires room { 0 < length buf.old }
         requires sound { failures self.old ≡ 0 }
@@ -36,7 +36,8 @@ pub trait Source {
         ensures bytes { ReadConsumes (rest self.old) (rest self.new) result buf.new }
         ensures failures { CountsFailure result (failures self.new) };
 
-    /// Returns the number of failures of the source (the object from which the input is read), which is 0 or 1.
+    /// Returns the number of times that the source (the object from which the input is read) has failed so far, which
+    /// is 0 or 1.
     fn failures(&self) -> u32
         ensures failures { result ≡ failures self.now }
         ensures range { result ≤ 1 };

@@ -30,7 +30,7 @@ const TARGET: usize = 12;
 /// further bytes and a line feed.
 pub(crate) const LONGEST: usize = 8_029;
 
-/// Writes the header to the beginning of the buffer. Returns the index at which the header ends.
+/// Writes the header to the beginning of the buffer. Returns the index after the line feed of the header.
 pub(crate) fn append_header(buffer: &mut [u8], first: u32, transitions: usize, states: u32) -> usize
     requires { LONGEST ≤ length buffer.old }
     ensures text { take result buffer.new ≡ header_of first transitions states }
@@ -80,9 +80,9 @@ impl Front {
         Front { source, bytes, len }
     }
 
-    /// Writes the front of a line (all bytes before the label) at the index `end` of the buffer. Returns the index at
-    /// which the front ends. The function copies the whole array of the front, because copying an array of fixed length
-    /// needs no function call.
+    /// Writes the front of a line (all bytes before the label) at the index `end` of the buffer. Returns the index
+    /// after the last byte of the front. The function copies the whole array of the front, because copying an array of
+    /// fixed length needs no function call.
     fn put(&self, buffer: &mut [u8], end: usize) -> usize
         requires { end + FRONT ≤ length buffer.old }
         ensures text { take result buffer.new ≡ take end buffer.old ++ written_front self.now }
@@ -128,7 +128,8 @@ pub(crate) struct Word<'a> {
 }
 
 /// Writes the line of a transition at the index `end` of the buffer. The arguments `front`, `word` and `target` are the
-/// front of the line (all bytes before the label), the label and the target. Returns the index at which the line ends.
+/// front of the line (all bytes before the label), the label and the target. Returns the index after the line feed of
+/// this line.
 pub(crate) fn append_transition(
     buffer: &mut [u8],
     end: usize,
@@ -175,9 +176,9 @@ fn append_word(buffer: &mut [u8], end: usize, word: Word<'_>) -> usize
     append(buffer, end, b", ")
 }
 
-/// Writes a target and the end of its line at the index `end` of the buffer. Returns the index at which the line ends.
-/// The function copies `TARGET` bytes even if the target has fewer digits, because copying an array of fixed length
-/// needs no function call.
+/// Writes a target and the end of its line at the index `end` of the buffer. Returns the index after the line feed of
+/// this line. The function copies `TARGET` bytes even if the target has fewer digits, because copying an array of fixed
+/// length needs no function call.
 fn append_target(buffer: &mut [u8], end: usize, target: u32) -> usize
     requires { end + TARGET ≤ length buffer.old }
     ensures text { take result buffer.new ≡ take end buffer.old ++ decimal target ++ codes ")\n" }
@@ -190,7 +191,7 @@ fn append_target(buffer: &mut [u8], end: usize, target: u32) -> usize
 }
 
 /// Writes the written form of a label at the index `end` of the buffer. The argument `plain` is true if the label may
-/// be written without quotation marks. Returns the index at which the written form ends.
+/// be written without quotation marks. Returns the index after the last byte of the written form.
 fn append_label(buffer: &mut [u8], end: usize, label: &[u8], plain: bool) -> usize
     requires room { end + 2 + length label.now ≤ length buffer.old }
     requires plain { plain ≡ is_plain label.now }
@@ -222,8 +223,8 @@ fn are_letters_or_digits(bytes: &[u8]) -> bool
     bytes.iter().all(|b| is_letter(*b) || b.is_ascii_digit())
 }
 
-/// Copies `bytes` to the buffer, beginning at the index `end`. Returns the index at which the copied bytes end. Callers
-/// use this function to build an output in a buffer, part after part.
+/// Copies `bytes` to the buffer, beginning at the index `end`. Returns the index after the copied bytes, which is `end`
+/// plus the number of these bytes. Callers use this function to build an output in a buffer, part after part.
 pub fn append(buffer: &mut [u8], end: usize, bytes: &[u8]) -> usize
     requires { end + length bytes.now ≤ length buffer.old }
     ensures text { take result buffer.new ≡ take end buffer.old ++ bytes.now }

@@ -1,6 +1,7 @@
-//! This module contains theorems about whole inputs. There is exactly one way to divide an input into lines. Each input
-//! either can be read as exactly one system, or has exactly one first error. No input can be read as a system and has a
-//! first error. Each theorem is stated as the contract of a function with an empty body.
+//! This module contains theorems about reading a complete input (a system or a hide list), rather than a single line of
+//! it. There is exactly one way to divide an input into lines. Each input either can be read as exactly one system, or
+//! has exactly one first error. No input can be read as a system and has a first error. Each theorem is stated as the
+//! contract of a function with an empty body.
 ghost use Rattle.std.specs.Prelude.{◌≡◌, ◌≢◌, ◌⊎◌, ◌↔◌, ℕ, List, [], ◌++◌};
 ghost use Rattle.theory.specs.System.{System, Hide};
 ghost use Rattle.autfmt.specs.declared.fault.Fault.{Fault};
@@ -26,7 +27,7 @@ pub fn a_text_has_its_lines()
     ensures one { (text : List ℕ) (k l : List (List ℕ)) → Lines text k → Lines text l → k ≡ l }
 {}
 
-/// Every input can be read as at most one system. For every input, at most one error is its first error (`FirstFault`).
+/// Every input can be read as at most one system. Every input has at most one first error (`FirstFault`).
 pub fn a_text_has_one_reading()
     ensures system { (bounds : Bounds) (text : List ℕ) (A B : System) →
         Reads bounds text A → Reads bounds text B → A ≡ B }
@@ -34,7 +35,7 @@ pub fn a_text_has_one_reading()
         FirstFault bounds text f → FirstFault bounds text g → f ≡ g }
 {}
 
-/// An input can be read as a system if and only if no error is its first error (`FirstFault`). If an input can be read
+/// An input can be read as a system if and only if the input has no first error (`FirstFault`). If an input can be read
 /// as a system, its line 1 is a correct header.
 pub fn a_text_reads_or_has_a_fault()
     ensures one { (bounds : Bounds) (text : List ℕ) →
@@ -51,8 +52,8 @@ pub fn a_text_reads_or_has_a_fault()
 /// (`JudgedFault`). Then the whole input has this first error, whatever bytes follow. Now suppose that an input
 /// consists of exactly the bytes that have been read, and that this input has a first error. If the error is that a
 /// line is too long, or that there is a line after the last transition that the header declares, then these bytes are
-/// enough to show this error. The bytes are also enough to show the error if they end with a line feed, and the error
-/// is not `MissingEdges` (transitions are missing).
+/// enough to show this error. The bytes that have been read are also enough to show the error if they end with a line
+/// feed, and the error is not `MissingEdges` (transitions are missing).
 pub fn a_judged_fault_is_the_first()
     ensures first { (bounds : Bounds) (given more : List ℕ) (f : Fault) →
         JudgedFault bounds given f → FirstFault bounds (given ++ more) f }
@@ -66,8 +67,8 @@ pub fn a_judged_fault_is_the_first()
         FirstFault bounds given (ExtraText k) → JudgedFault bounds given (ExtraText k) }
 {}
 
-/// A hide list (the labels to hide, one on each line) can be read as at most one list of labels. At most one error is
-/// the first error of a hide list (`FirstHideFault`).
+/// A hide list (the labels to hide, one on each line) can be read as at most one list of labels. A hide list has at
+/// most one first error (`FirstHideFault`).
 pub fn a_hide_list_has_one_reading()
     ensures labels { (text : List ℕ) (H K : List (List ℕ)) → HideReads text H →
         HideReads text K → H ≡ K }
@@ -75,8 +76,8 @@ pub fn a_hide_list_has_one_reading()
         FirstHideFault text g → f ≡ g }
 {}
 
-/// A hide list (the labels to hide, one on each line) can be read as a list of labels if and only if no error is its
-/// first error (`FirstHideFault`).
+/// A hide list (the labels to hide, one on each line) can be read as a list of labels if and only if the hide list has
+/// no first error (`FirstHideFault`).
 pub fn a_hide_list_reads_or_has_a_fault()
     ensures one { (text : List ℕ) →
         ((H : List (List ℕ)) × HideReads text H) ⊎ ((f : Fault) × FirstHideFault text f) }
@@ -90,7 +91,7 @@ pub fn a_hide_list_reads_or_has_a_fault()
 /// certain first error (`JudgedHideFault`). Then the whole hide list has this first error, whatever bytes follow. Now
 /// suppose that a hide list consists of exactly the bytes that have been read, and that this hide list has a first
 /// error. If the error is that a line is too long, or that there are too many lines, then these bytes are enough to
-/// show this error. The bytes are also enough to show the error if they end with a line feed.
+/// show this error. The bytes that have been read are also enough to show the error if they end with a line feed.
 pub fn a_judged_hide_fault_is_the_first()
     ensures first { (given more : List ℕ) (f : Fault) → JudgedHideFault given f →
         FirstHideFault (given ++ more) f }

@@ -44,11 +44,11 @@ fn past_end(bytes: &[u8]) -> Option<&[u8]>
     }
 }
 
-/// Reads the number at the beginning of the bytes. Returns the number and the bytes after it. The result is `None` in
-/// four cases: the bytes do not begin with a digit, they begin with eight or more digits, a digit follows a leading
-/// zero, or there are fewer than nine bytes. If the function returns a number, there are at least two bytes after this
-/// number. Therefore the caller can read the two bytes after the number without checking the length, which saves 5 % of
-/// the reading time.
+/// Reads the number at the beginning of `bytes`. Returns the number and the bytes after it. The result is `None` in
+/// four cases: `bytes` does not begin with a digit, `bytes` begins with eight or more digits, a digit follows a leading
+/// zero, or `bytes` contains fewer than nine bytes. If the function returns a number, there are at least two bytes
+/// after this number. Therefore the caller can read the two bytes after the number without checking the length, which
+/// saves 5 % of the reading time.
 #[inline(always)]
 fn short_number(bytes: &[u8]) -> Option<(u64, &[u8])>
     ensures number { IfSome result (λ x. BeginsWithNumber bytes.now x.0 x.1.now) }
@@ -77,9 +77,9 @@ fn past_comma(bytes: &[u8]) -> Option<&[u8]>
     }
 }
 
-/// Reads the label at the beginning of the bytes, with or without quotation marks. Returns the bytes of the label and
-/// the bytes after the label. If fewer than two bytes follow the label, the result is `None`. The function does not
-/// check whether the bytes between quotation marks are a valid label.
+/// Reads the label at the beginning of `bytes`, with or without quotation marks. Returns the bytes of the label and the
+/// bytes after the label. If fewer than two bytes follow the label, the result is `None`. The function does not check
+/// whether the bytes between quotation marks are a valid label.
 #[inline(always)]
 fn label_in_front(bytes: &[u8]) -> Option<(&[u8], &[u8])>
     ensures label { IfSome result

@@ -1,4 +1,4 @@
-//! The hash of a pair of numbers, from which callers compute tags (hashes of 32 bits).
+//! Defines the hash of a pair of numbers. Callers use this hash to compute tags (hashes of 32 bits).
 ghost use Rattle.std.specs.Prelude.{◌≡◌};
 ghost use Rattle.buckets.specs.Hashing.{hash_of};
 

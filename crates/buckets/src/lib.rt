@@ -36,8 +36,9 @@ const MOST_BUCKETS: usize = 1 << 26;
 /// The growth factor: when there are more entries than buckets, the number of buckets is multiplied by this factor.
 const GROWTH_FACTOR: usize = 4;
 
-/// Emptying the bucket that a given entry belongs to takes about as long as emptying this number of adjacent buckets.
-/// The reason is that the position of the bucket has to be computed from the tag of the entry, which is a hash.
+/// Emptying the bucket that a given entry belongs to takes about as long as emptying this number of buckets that are
+/// next to each other in memory. The reason is that the position of the bucket has to be computed from the tag of the
+/// entry, which is a hash.
 const BUCKETS_PER_ENTRY: usize = 16;
 
 /// A hash table that maps each tag, which is a hash of 32 bits, to the IDs of the entries with this tag. The first

@@ -23,9 +23,9 @@ pub use Rattle.inert.specs.declared.depth_first_search.Root.{Root}
 pub use Rattle.inert.specs.declared.item.Item.{Item}
 pub use Rattle.inert.specs.declared.item.Item.TheVariants.{Pair, Interned}
 
--- An item is a pair (label ID, block) or a signature ID, and is stored as two numbers. Returns the item that is stored
--- as the numbers a and b. If a is the constant `INTERNED`, which is not the ID of a label, the item is the signature ID
--- b. Otherwise the item is the pair (a, b).
+-- An item is either a pair (label ID, block) or a signature ID. Items of both kinds are stored as two numbers. Returns
+-- the item that is stored as the numbers a and b. If a is the constant `INTERNED`, which is not the ID of a label, the
+-- item is the signature ID b. Otherwise the item is the pair (a, b).
 abbrev pub item_of : ℕ → ℕ → Item
 item_of a b = cond (a == INTERNED) (Interned b) (Pair a b)
 
@@ -84,10 +84,9 @@ unread places stages = length (filter (λ e. is_unvisited (stage_at stages (sour
 abbrev pub rest : List ℕ → List Frame → ℕ
 rest visited frames = sum_by (λ x. price_between visited x.next x.end) frames
 
--- `KeepsVisited` compares the statuses of all states at two points `old` and `new` of the search. It holds if both of
--- the following conditions hold. First, each state that is unvisited at the point `new` is also unvisited at the point
--- `old`. Second, each state that is completed at the point `old` is completed at the point `new` with the same
--- signature ID.
+-- The lists `old` and `new` contain the statuses of all states at two points of the search. `KeepsVisited` holds if
+-- both of the following conditions hold. First, each state that is unvisited in `new` is also unvisited in `old`.
+-- Second, each state that is completed in `old` is completed in `new` with the same signature ID.
 pub record KeepsVisited (old new : List VisitState) : Type 0 where
   pub unseen : (s : ℕ) → stage_at new s ≡ Unvisited → stage_at old s ≡ Unvisited
   pub finished : (s k : ℕ) → stage_at old s ≡ Completed k → stage_at new s ≡ Completed k
@@ -158,9 +157,9 @@ pub record Laws : Type 0 where
 abbrev pub LeadsInertly : Under → ℕ → ℕ → Type 0
 LeadsInertly u s t = Leads (Inert (system_of u.l) (slice_index u.blocks)) s t
 
--- The stack is divided into components, which are strongly connected sets of adjacent states. Consider the component
--- that contains the state at the index p of the stack. `IsNotBelow` holds if the index q is at least the index of the
--- first state of this component on the stack.
+-- The stack is divided into components. A component is a strongly connected set of states that are next to each other
+-- on the stack. Consider the component that contains the state at the index p of the stack. `IsNotBelow` holds if the
+-- index q is at least the index of the first state of this component on the stack.
 abbrev pub IsNotBelow : List Root → ℕ → ℕ → Type 0
 IsNotBelow roots p q = All (λ r. r.height ≤ p → r.height ≤ q) roots
 
@@ -249,9 +248,9 @@ pub record AreFrames (l : Grouped) (stack : List ℕ) (frames : List Frame) : Ty
   pub ascending : AllPairs (λ x y. x.height < y.height) frames
   pub each : All (IsFrame l stack) frames
 
--- The stack is divided into components, which are strongly connected sets of adjacent states. `Connects` holds if paths
--- of inert steps lead from each state on the stack to all states of its component and to all states that are higher on
--- the stack.
+-- The stack is divided into components. A component is a strongly connected set of states that are next to each other
+-- on the stack. `Connects` holds if paths of inert steps lead from each state on the stack to all states of its
+-- component and to all states that are higher on the stack.
 abbrev pub Connects : Under → Search → Type 0
 Connects u w = (p q : ℕ) → p < length w.stack → q < length w.stack → IsNotBelow w.roots p q →
     LeadsInertly u (slice_index w.stack p) (slice_index w.stack q)

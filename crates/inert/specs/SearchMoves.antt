@@ -91,10 +91,10 @@ pub record IsUnionOfItems (items : List Item) (before after : List (List (ℕ ×
   pub exactly : (z : ℕ × ℕ) → Contains (list_at after k) z ↔ ((x : Item) × Contains items x × GivesPair before x z)
   pub ascending : IsStrictlySortedBy pair_cmp (list_at after k)
 
--- `Finishes` compares two lists `old` and `new` of the statuses of all states. It holds if all three of the following
--- conditions hold. First, each state on the stack whose index on the stack is at least f is completed in `new` with the
--- signature ID `id`. Second, every other state has the same status in both lists. Third, both lists have the same
--- length.
+-- The lists `old` and `new` contain the statuses of all states at two points of the search. `Finishes` holds if all
+-- three of the following conditions hold. First, each state on the stack whose index on the stack is at least f is
+-- completed in `new` with the signature ID `id`. Second, every other state has the same status in both lists. Third,
+-- both lists have the same length.
 pub record Finishes (stack : List ℕ) (f id : ℕ) (old new : List VisitState) : Type 0 where
   pub size : length new ≡ length old
   pub members : (p : ℕ) → f ≤ p → p < length stack → stage_at new (slice_index stack p) ≡ Completed id
@@ -137,34 +137,34 @@ steps w = 2 * unseen w.stages + length w.frames
 abbrev pub HasRead : Search → Type 0
 HasRead w = (top w.frames).next ≡ (top w.frames).end
 
--- `SignsMore` compares the statuses of all states at two points `old` and `new` of the search. It holds if each state
--- that is completed at the point `new` satisfies at least one of two conditions. The first condition is that the state
--- has the same status at both points. The second condition is that the status of the state at the point `new` contains
--- the ID of its branching signature.
+-- The lists `old` and `new` contain the statuses of all states at two points of the search. `SignsMore` holds if each
+-- state that is completed in `new` satisfies at least one of two conditions. The first condition is that the state has
+-- the same status in both lists. The second condition is that the status of the state in `new` contains the ID of its
+-- branching signature.
 abbrev pub SignsMore : Under → List (List (ℕ × ℕ)) → List VisitState → List VisitState → Type 0
 SignsMore u signatures old new =
     (s k : ℕ) → stage_at new s ≡ Completed k → (stage_at old s ≡ Completed k) ⊎ IsSigned u s signatures k
 
--- `GoesOn` compares the data of the search at two points `old` and `new`. The list of interned signatures is `before`
--- at the point `old` and `signatures` at the point `new`. `GoesOn` holds if all four of the following conditions hold.
--- First, the invariant of the search holds at the point `new` (`SearchInvariant`). Second, each signature of `before`
--- has the same ID in `signatures`. Third, each state that is unvisited in `new` is also unvisited in `old`, and each
--- state that is completed in `old` has the same status in `new` (`KeepsVisited`). Fourth, each state that is completed
--- in `new` has the same status in `old`, or its status in `new` contains the ID of its branching signature
--- (`SignsMore`).
+-- The search has the data `old` at one point, and the data `new` at another point. The list of interned signatures is
+-- `before` at the first point, and `signatures` at the second point. `GoesOn` holds if all four of the following
+-- conditions hold. First, the invariant of the search holds at the second point (`SearchInvariant`). Second, each
+-- signature of `before` has the same ID in `signatures`. Third, each state that is unvisited in `new` is also unvisited
+-- in `old`, and each state that is completed in `old` has the same status in `new` (`KeepsVisited`). Fourth, each state
+-- that is completed in `new` has the same status in `old`, or its status in `new` contains the ID of its branching
+-- signature (`SignsMore`).
 pub record GoesOn (u : Under) (before signatures : List (List (ℕ × ℕ))) (old new : Search) : Type 0 where
   pub walks : SearchInvariant u signatures new
   pub grow : Grow before signatures
   pub seen : KeepsVisited old.stages new.stages
   pub signs : SignsMore u signatures old.stages new.stages
 
--- `MakesProgress` compares the data `old` of the search before a call of `read` with the data `new` after the call. The
--- call reads outgoing transitions of the current state of the search. Each frame belongs to a state on the stack, and
--- records which outgoing transitions of this state are still to be read. The function `steps` returns an upper bound
--- for the number of states that are still to be pushed plus the number of frames that are still to be popped. If the
--- call has pushed a state (`enters`), `MakesProgress` states that this bound has decreased. If the call has not pushed
--- a state, `MakesProgress` states that there is still a frame, that all outgoing transitions of the current state were
--- read, and that the bound has not increased.
+-- The search has the data `old` before a call of `read`, and the data `new` after the call. The call reads outgoing
+-- transitions of the current state of the search. Each frame belongs to a state on the stack, and records which
+-- outgoing transitions of this state are still to be read. The function `steps` returns an upper bound for the number
+-- of states that are still to be pushed plus the number of frames that are still to be popped. If the call has pushed a
+-- state (`enters`), `MakesProgress` states that this bound has decreased. If the call has not pushed a state,
+-- `MakesProgress` states that there is still a frame, that all outgoing transitions of the current state were read, and
+-- that the bound has not increased.
 abbrev pub MakesProgress : Search → Search → Bool → Type 0
 MakesProgress old new enters = (IsTrue enters → steps new < steps old)
     × (¬ IsTrue enters → HasRead new × (0 < length new.frames) × (steps new ≤ steps old))
@@ -176,9 +176,9 @@ pub record IsAtRest (u : Under) (signatures : List (List (ℕ × ℕ))) (w : Sea
   pub empty : w ≡ nothing w.stages
   pub walks : SearchInvariant u signatures w
 
--- `ReturnsToRest` compares the data of the search at two points `old` and `new`. It holds if both of the following
--- conditions hold. First, the search has gone on from `old` to `new` (`GoesOn`). Second, no search is in progress at
--- `new`, which means that the stack and all other lists of `new` are empty.
+-- The search has the data `old` at one point, and the data `new` at another point. `ReturnsToRest` holds if both of the
+-- following conditions hold. First, the search has gone on from `old` to `new` (`GoesOn`). Second, no search is in
+-- progress at `new`, which means that the stack and all other lists of `new` are empty.
 pub record ReturnsToRest (u : Under) (before signatures : List (List (ℕ × ℕ))) (old new : Search) : Type 0 where
   pub empty : new ≡ nothing new.stages
   pub on : GoesOn u before signatures old new

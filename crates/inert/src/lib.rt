@@ -1,7 +1,7 @@
 //! Computes the branching signatures of the active states, which are the states that a round processes. A depth-first
 //! search along inert transitions reads the row of each active state (its outgoing transitions) once. A visit is a read
-//! of a transition that the meter counts. If a transition was already visited in the round, the search reads it again,
-//! but the meter does not count this read.
+//! of a transition that the meter counts. Before the search begins, the caller may already have visited some of the
+//! transitions in the same round. The search also reads these transitions, but the meter does not count these reads.
 //!
 //! A transition is inert if it is internal and its source and target are in the same block. The signature of a state
 //! contains the pair (label, target block) of each of its transitions that is not inert. The signature also contains

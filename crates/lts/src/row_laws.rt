@@ -8,8 +8,8 @@ ghost use Rattle.lts.specs.Labels.{text_of, IsLabelId};
 
 /// The row of a state is the list of its outgoing transitions, and the place of a transition is its index in the list
 /// of all transitions. In this list, the rows of the states follow each other without gaps. The row of the state 0
-/// begins at the place 0, and the row of the last state ends after the last place. Inside a row, the transitions are in
-/// the order of their places.
+/// begins at the place 0, and the row of the last state ends after the last place. The row of a state, which is a list,
+/// contains the transitions in ascending order of their places.
 pub fn rows_follow()
     ensures none { (places : List Triple) → before 0 places ≡ 0 }
     ensures next { (s : ℕ) (places : List Triple) →

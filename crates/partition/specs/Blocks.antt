@@ -52,11 +52,11 @@ pub record HaveSignatureIds (states : ℕ) (active signature_ids : List ℕ) : T
   pub ascending : AreActive states active
   pub none : InactiveHaveNone active signature_ids
 
--- `AreSplitBlocks` compares the blocks before a split (p) and after it (q). It holds if all four of the following
--- conditions hold. First, the blocks of q result from splitting the blocks of p by the signature IDs in
--- `signature_ids`. Second, if a block of p is split, each new block that results contains at most half of the states of
--- the block of p. Third, the ID of the first new block of q is the number of blocks of p. Fourth, p and q have the same
--- active states, which are the states that the round processes.
+-- `AreSplitBlocks` states how the blocks after a split (q) result from the blocks before the split (p). It holds if all
+-- four of the following conditions hold. First, the blocks of q result from splitting the blocks of p by the signature
+-- IDs in `signature_ids`. Second, if a block of p is split, each new block that results contains at most half of the
+-- states of the block of p. Third, the ID of the first new block of q is the number of blocks of p. Fourth, p and q
+-- have the same active states, which are the states that the round processes.
 pub record AreSplitBlocks (p : RoundBlocks) (signature_ids : List ℕ) (q : RoundBlocks) : Type 0 where
   pub splits : Splits p.block_ids p.count (slice_index signature_ids) q.block_ids q.count
   pub halves : HalvesBlocks p.block_ids p.count q.block_ids
@@ -90,7 +90,8 @@ pub record DropsSingletons (of old new : List ℕ) : Type 0 where
   pub were : (s : ℕ) → IsMember new s → IsMember old s
   pub are : (s : ℕ) → IsMember old s → IsMember new s ⊎ IsSingleton of s
 
--- `AreSameOrNone` compares the signature IDs of all states before a call (`old`) and after this call (`new`). It holds
--- if the signature ID of each state stays the same, or is 0 after the call. The ID 0 is the ID of the empty signature.
+-- The list `old` contains the signature IDs of all states before a call, and `new` contains their signature IDs after
+-- this call. `AreSameOrNone` holds if the signature ID of each state stays the same, or is 0 after the call. The ID 0
+-- is the ID of the empty signature.
 abbrev pub AreSameOrNone : List ℕ → List ℕ → Type 0
 AreSameOrNone old new = (s : ℕ) → (slice_index new s ≡ slice_index old s) ⊎ (slice_index new s ≡ 0)

@@ -6,9 +6,9 @@ use Rattle.std.specs.List.{filter}
 abbrev pub block_size : List ℕ → ℕ → ℕ
 block_size of b = length (filter (λ x. x == b) of)
 
--- `HalvesBlocks` compares the block IDs of all states before a split (`old`) and after it (`new`). It holds if each new
--- block contains at most half of the states of the old block that it comes from. The new blocks are the blocks with an
--- ID of at least `count`.
+-- The list `old` contains the block IDs of all states before a split, and `new` contains their block IDs after the
+-- split. `HalvesBlocks` holds if each new block contains at most half of the states of the old block that it comes
+-- from. The new blocks are the blocks with an ID of at least `count`.
 abbrev pub HalvesBlocks : List ℕ → ℕ → List ℕ → Type 0
 HalvesBlocks old count new = (s : ℕ) → s < length old → ¬ (slice_index new s < count)
     → block_size new (slice_index new s) * 2 ≤ block_size old (slice_index old s)

@@ -2,7 +2,7 @@
 use Rattle.std.specs.Prelude.{ℕ, ◌-◌, ◌<◌, ◌≤◌, List, length, get_or}
 
 -- The span of a block is the range of the indices at which the states of the block are stored. `from` returns the index
--- at which the span of the block b begins, and `to` returns the index at which the span ends.
+-- at which the span of the block b begins, and `to` returns the first index after the span.
 abbrev pub from : List (ℕ × ℕ) → ℕ → ℕ
 from spans b = (get_or spans b (0, 0)).0
 

@@ -13,12 +13,13 @@ Alike old has s t = (slice_index old s ≡ slice_index old t) × (has s ≡ has 
 abbrev pub IsSingleton : List ℕ → ℕ → Type 0
 IsSingleton old s = (t : ℕ) → t < length old → slice_index old t ≡ slice_index old s → t ≡ s
 
--- `Splits` compares the block IDs of all states before a split (`old`) and after it (`new`). There are `count` blocks
--- before the split, and `more` blocks after it. `Splits` holds if all four of the following conditions hold. First,
--- `new` contains a valid block ID for each state (`AreBlocks`), and `more` is at least `count`. Second, two states are
--- in the same block after the split if and only if they were in the same block before the split and `has` gives them
--- the same value. Third, each state keeps its block ID, or gets an ID of at least `count`. Fourth, if there are more
--- blocks after the split than before, the split has separated two states of the same block.
+-- The list `old` contains the block IDs of all states before a split, and `new` contains their block IDs after the
+-- split. There are `count` blocks before the split, and `more` blocks after it. `Splits` holds if all four of the
+-- following conditions hold. First, `new` contains a valid block ID for each state (`AreBlocks`), and `more` is at
+-- least `count`. Second, two states are in the same block after the split if and only if they were in the same block
+-- before the split and `has` gives them the same value. Third, each state keeps its block ID, or gets an ID of at least
+-- `count`. Fourth, if there are more blocks after the split than before, the split has separated two states of the same
+-- block.
 pub record Splits {X : Type 0} (old : List ℕ) (count : ℕ) (has : ℕ → X) (new : List ℕ) (more : ℕ) : Type 0 where
   pub states : length new ≡ length old
   pub blocks : AreBlocks new more

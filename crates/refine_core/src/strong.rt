@@ -134,8 +134,8 @@ fn intern_signature<M: Meter>(
 /// Stores the pairs (label, target block) of the transitions of `s` in `pairs`, and returns whether at least one of
 /// these pairs contains a new block, which is a block that the last split has made. A visit is a read of a transition
 /// that the meter counts. If a transition of `s` was already visited in this round, `read_unvisited` reads the
-/// transition, but the meter does not count this read. This is the only difference from the function `read`, for which
-/// the meter counts every read.
+/// transition, but the meter does not count this read. This is the only difference from the function `read`: when
+/// `read` reads a transition, the meter always counts this read.
 #[inline(always)]
 fn read_unvisited<M: Meter>(
     under: &NewBlocks<M>,

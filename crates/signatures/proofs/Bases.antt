@@ -1,6 +1,6 @@
 -- A list is stored in two parts: its base, which is a list of pairs that several lists can share, and its extra pairs,
 -- which are all other pairs of the list. A pair is in at least one of several lists if and only if the pair is in the
--- base of one of these lists, or is an extra pair of one of these lists.
+-- base of at least one of these lists, or is an extra pair of at least one of these lists.
 use Rattle.std.proofs.Common.{◌≡◌, ◌⊎◌, ◌↔◌, ℕ, Option, None, Some, ◌<◌, List, ◌++◌, length, slice_index, Contains, []}
 use Rattle.std.proofs.Common.{refl, inl, inr, arith, rules, All, IfSome, get_or-append-add}
 use Rattle.std.proofs.lemmas.Bool.{cases_eq, cases_lt}
@@ -15,8 +15,8 @@ own_or_not (Some own) base = search (rules, cases_eq own base)
 
 -- A list is stored in two parts: its base, which is a list of pairs that several lists can share, and its extra pairs,
 -- which are all other pairs of the list. A pair is in at least one of several lists if and only if the pair is in the
--- base of one of these lists, or is an extra pair of one of these lists. The lemma distinguishes two kinds of extra
--- pairs: the extra pairs of lists whose base has the ID `own`, and the extra pairs of all other lists.
+-- base of at least one of these lists, or is an extra pair of at least one of these lists. The lemma distinguishes two
+-- kinds of extra pairs: the extra pairs of lists whose base has the ID `own`, and the extra pairs of all other lists.
 module _ (trie : List (List (ℕ × ℕ))) (extensions : List (ℕ × List (ℕ × ℕ))) (ids : List ℕ)
     (known : All (λ k. k < length extensions) ids)
     (own : Option ℕ) (z : ℕ × ℕ) where

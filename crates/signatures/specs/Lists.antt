@@ -35,8 +35,9 @@ pub record AreLists (lists : List (List (ℕ × ℕ))) : Type 0 where
 abbrev pub AreIds : List (List (ℕ × ℕ)) → List ℕ → Type 0
 AreIds lists ids = All (λ k. k < length lists) ids
 
--- `Grow` compares the lists that are stored before a call (`old`) with the lists that are stored after this call
--- (`new`). `Grow` holds if each list of `old` is also in `new`, with the same ID. The call may have added lists.
+-- The argument `old` contains the lists that are stored before a call, and `new` contains the lists that are stored
+-- after this call. `Grow` holds if each list of `old` is also in `new`, with the same ID. The call may have added
+-- lists.
 pub record Grow (old new : List (List (ℕ × ℕ))) : Type 0 where
   pub longer : length old ≤ length new
   pub same : (k : ℕ) → k < length old → list_at new k ≡ list_at old k

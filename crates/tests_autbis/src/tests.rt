@@ -1,5 +1,5 @@
-//! The tests of this crate, with one file for each subject. The file `running` contains functions that run examples of
-//! the other files.
+//! The tests of this crate, with one file for each subject. The file `running` contains functions that other files call
+//! to run their examples.
 mod commands;
 mod comparisons;
 mod faults;

@@ -15,9 +15,9 @@ pub(crate) enum Ending {
 }
 
 impl Ending {
-    /// Combines the ways in which two examples ended. The result is `Wrong` if one of the two examples had neither the
-    /// expected result nor a failed allocation. Otherwise, the result is `Refused` if an allocation failed in one of
-    /// the examples, and `Wanted` if both examples ended with the expected result.
+    /// Combines the ways in which two examples ended. The result is `Wrong` if at least one of the two examples ended
+    /// in a wrong way. Otherwise, the result is `Refused` if an allocation failed in at least one of the two examples,
+    /// and `Wanted` if both examples ended with the expected result.
     pub(crate) fn and(self, other: Ending) -> Ending {
         match self {
             Ending::Wanted => other,

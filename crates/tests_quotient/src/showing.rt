@@ -38,7 +38,7 @@ pub(crate) enum Shown {
 /// An example: its name, its system, and the expected text.
 pub(crate) type Row = (&'static str, &'static str, &'static str);
 
-/// Fails if the result for one of the systems differs from the expected text.
+/// Fails if the result for at least one of the systems differs from the expected text.
 pub(crate) fn check_rows(alloc: Global, what: Shown, rows: &[Row]) -> Result<(), Fail> {
     for (name, text, wanted) in rows {
         check_row(alloc, what, name, text, wanted)?;

@@ -50,8 +50,8 @@ pub record RefinesBy (rel : Relation) (A : System) (first : List ℕ) (rounds : 
       SplitsBy rel A (blocks_before first rounds j) (signatures_at rounds j) (blocks_before first rounds (suc j))
   pub turns : Turns rel A (length rounds)
 
--- `NumbersAre` holds if the list `numbers` contains, at the index s, the class number of the state s (the quotient
--- state that represents s).
+-- `NumbersAre` holds if the list `numbers` contains, at the index s, the class number of the state s (the number of the
+-- quotient state that the class of s becomes).
 pub record NumbersAre (rel : Relation) (A : System) (numbers : List ℕ) : Type 0 where
   pub all : length numbers ≡ A.states
   pub each : (s : ℕ) → s < A.states → Number rel A s (slice_index numbers s)
@@ -63,7 +63,7 @@ pub record LeadersAre (rel : Relation) (A : System) (leaders : List ℕ) : Type 
   pub each : (s : ℕ) → s < A.states → Leader rel A s (slice_index leaders s)
 
 -- `QuotientIs` holds if Q is the quotient of A, and the list `list` contains the class number of each state of A (the
--- quotient state that represents the state).
+-- number of the quotient state that the class of the state becomes).
 pub record QuotientIs (rel : Relation) (A Q : System) (list : List ℕ) : Type 0 where
   pub quotient : Quotient rel A Q
   pub numbers : NumbersAre rel A list
@@ -159,8 +159,8 @@ silent_choice = system 0 2 (edge 0 internal 1 ∷ edge 0 a 1 ∷ [])
 abbrev pub silent_beside : System
 silent_beside = system 0 4 (edge 0 internal 1 ∷ edge 0 a 2 ∷ edge 1 b 3 ∷ [])
 
--- `silent_cycle` is a system with two states. An internal transition leads from each state to the other state. In one
--- of the two states, a transition with the label `a` is also possible.
+-- `silent_cycle` is a system with two states. An internal transition leads from each state to the other state. In
+-- exactly one of the two states, a transition with the label `a` is also possible.
 abbrev pub silent_cycle : System
 silent_cycle = system 0 2 (edge 0 internal 1 ∷ edge 1 internal 0 ∷ edge 1 a 1 ∷ [])
 

@@ -1,5 +1,6 @@
--- Lemmas about class numbers. The class number of a reachable state is the quotient state that represents the class of
--- this state. A leader is the state of the system that represents its class.
+-- Lemmas about class numbers. In the quotient, each class of bisimilar states becomes one state, and the class number
+-- of a reachable state is the number of the quotient state that its class becomes. A leader is the state of the system
+-- that represents its class.
 --
 -- Each reachable state has exactly one class number. Two reachable states have the same class number if and only if
 -- they are bisimilar. The class numbers (the quotient states) are exactly the numbers less than the number of leaders.
@@ -37,8 +38,8 @@ module _ (rel : Relation) (A : System) (sys : IsSystem A) where
       how_many_like (λ m. IsOther rel A m × (m < l)) (λ m. IsLeader rel A m × (m < l) × (m ≢ A.first)) (place l)
       (λ m. (λ h. (h.0.0, h.1, h.0.1), λ h. ((h.0, h.2), h.1))) (tallied (IsOther rel A) is_other_decided l)
 
-  -- A leader is the state that represents its class. `Placed` holds if n is the class number of the leader l. This
-  -- number is the quotient state that represents the class of l.
+  -- A leader is the state of the system that represents its class. `Placed` holds if n is the class number of the
+  -- leader l. This number is the number of the quotient state that the class of l becomes.
   abbrev Placed : ℕ → ℕ → Type 0
   Placed l n = ((l ≡ A.first) × (n ≡ 0)) ⊎ ((l ≢ A.first) × (n ≡ suc (place l)))
 
@@ -66,8 +67,9 @@ module _ (rel : Relation) (A : System) (sys : IsSystem A) where
   unfolding place
   place_less k l leads other low = tally_less (IsOther rel A) is_other_decided k l (leads, other) low
 
-  -- The leader of a class is the state that represents this class. The class number of a class is the quotient state
-  -- that represents this class. If the classes of two leaders have the same class number, the two leaders are equal.
+  -- The leader of a class is the state of the system that represents this class. In the quotient, each class becomes
+  -- one state, and the class number of the class is the number of this quotient state. If the classes of two leaders
+  -- have the same class number, the two leaders are equal.
   placed_apart : (k l n : ℕ) → IsLeader rel A k → IsLeader rel A l → Placed k n → Placed l n → k ≡ l
   placed_apart k l n hk hl (inl p) (inl q) = p.0 ∙ sym q.0
   placed_apart k l n hk hl (inl p) (inr q) = absurd (omega (arith, p.1, q.1))
@@ -83,29 +85,29 @@ module _ (rel : Relation) (A : System) (sys : IsSystem A) where
   led : (s l : ℕ) → Leader rel A s l → IsLeader rel A l
   led s l h = (l, (leader_fellow rel A sys s l h).0, leads_itself rel A sys s l h)
 
-  -- The class number of a state is the quotient state that represents the class of this state. Every reachable state
-  -- has a class number.
+  -- The class number of a state is the number of the quotient state that the class of this state becomes. Every
+  -- reachable state has a class number.
   pub number_of : (s : ℕ) → Reachable A s → (n : ℕ) × Number rel A s n
   number_of s path =
       let found : (l : ℕ) × Leader rel A s l = leader_of rel A sys s path in
       let at : (n : ℕ) × Placed found.0 n = place_of found.0 in
       (at.0, placed_number s found.0 at.0 found.1 at.1)
 
-  -- The class number of a state is the quotient state that represents the class of this state. A state has at most one
-  -- class number.
+  -- The class number of a state is the number of the quotient state that the class of this state becomes. A state has
+  -- at most one class number.
   pub number_once : (s m n : ℕ) → Number rel A s m → Number rel A s n → m ≡ n
   number_once s m n h g =
       let p : (l : ℕ) × Leader rel A s l × Placed l m = number_placed s m h in
       let q : (l : ℕ) × Leader rel A s l × Placed l n = number_placed s n g in
       placed_once q.0 m n (subst (λ l. Placed l m) (leader_unique rel A s p.0 q.0 p.1 q.1) p.2) q.2
 
-  -- The class number of a state is the quotient state that represents the class of this state. If two states are
-  -- bisimilar, they have the same class number.
+  -- The class number of a state is the number of the quotient state that the class of this state becomes. If two states
+  -- are bisimilar, they have the same class number.
   pub number_carried : (s t n : ℕ) → Bisimilar rel A s A t → Number rel A s n → Number rel A t n
   number_carried s t n b (l, leader, at) = (l, leader_carried rel A sys s t l b leader, at)
 
-  -- The class number of a state is the quotient state that represents the class of this state. If two states have the
-  -- same class number, they are bisimilar.
+  -- The class number of a state is the number of the quotient state that the class of this state becomes. If two states
+  -- have the same class number, they are bisimilar.
   pub same_number_bisimilar : (s t n : ℕ) → Number rel A s n → Number rel A t n → Bisimilar rel A s A t
   same_number_bisimilar s t n h g =
       let p : (l : ℕ) × Leader rel A s l × Placed l n = number_placed s n h in
@@ -113,16 +115,16 @@ module _ (rel : Relation) (A : System) (sys : IsSystem A) where
       let same : p.0 ≡ q.0 = placed_apart p.0 q.0 n (led s p.0 p.1) (led t q.0 q.1) p.2 q.2 in
       same_leader_bisimilar rel A sys s t q.0 (subst (Leader rel A s) same p.1) q.1
 
-  -- The class number of a reachable state is the quotient state that represents the class of this state. Two states
-  -- that have class numbers have the same class number if and only if they are bisimilar.
+  -- The class number of a reachable state is the number of the quotient state that the class of this state becomes. Two
+  -- states that have class numbers have the same class number if and only if they are bisimilar.
   pub numbers_classes : (s t m n : ℕ) → Number rel A s m → Number rel A t n → (m ≡ n) ↔ Bisimilar rel A s A t
   numbers_classes s t m n h g = (
     λ e. same_number_bisimilar s t n (subst (Number rel A s) e h) g,
     λ b. number_once t m n (number_carried s t m b h) g,
   )
 
-  -- The class number of a state is the quotient state that represents the class of this state. It is decidable whether
-  -- the state s is reachable and has the class number n.
+  -- The class number of a state is the number of the quotient state that the class of this state becomes. It is
+  -- decidable whether the state s is reachable and has the class number n.
   pub number_decided : (s n : ℕ) → Dec (Reachable A s × Number rel A s n)
   number_decided s n = go (reachable_decided rel A sys s)
     where
@@ -132,8 +134,7 @@ module _ (rel : Relation) (A : System) (sys : IsSystem A) where
           (λ h. number_once s (number_of s path).0 n (number_of s path).1 h.1) (same_number (number_of s path).0 n)
       go (no f) = no (λ h. f h.0)
 
-  -- The first state has the class number 0, which means that the quotient state 0 represents the class of the first
-  -- state.
+  -- The first state has the class number 0, which means that the class of the first state becomes the quotient state 0.
   pub first_number : Number rel A A.first 0
   first_number = (A.first, first_leads rel A sys, inl (refl, refl))
 
@@ -155,17 +156,17 @@ module _ (rel : Relation) (A : System) (sys : IsSystem A) where
     placed_below l n leads (inr p) =
         omega (arith, p.1, others_counted, place_less l A.states leads p.0 (is_leader_below rel A sys l leads))
 
-    -- The states of the quotient are numbers. The class number of a class is the quotient state that represents this
-    -- class, and the leader of a class is the state of the system that represents this class. Every class number is
-    -- less than the number of leaders.
+    -- In the quotient, each class becomes one state, and the class number of the class is the number of this quotient
+    -- state. The leader of a class is the state of the system that represents this class. Every class number is less
+    -- than the number of leaders.
     pub number_below : (s n : ℕ) → Number rel A s n → n < c
     number_below s n h =
         let p : (l : ℕ) × Leader rel A s l × Placed l n = number_placed s n h in
         placed_below p.0 n (led s p.0 p.1) p.2
 
-    -- The states of the quotient are numbers. The class number of a reachable state is the quotient state that
-    -- represents the class of this state, and a leader is a state of the system that represents its class. Every number
-    -- less than the number of leaders is the class number of some reachable state.
+    -- The class number of a reachable state is the number of the quotient state that the class of this state becomes. A
+    -- leader is a state of the system that represents its class. Every number less than the number of leaders is the
+    -- class number of some reachable state.
     pub number_taken : (n : ℕ) → n < c → (s : ℕ) × Reachable A s × Number rel A s n
     unfolding place
     number_taken zero low = (A.first, first_reachable A, first_number)

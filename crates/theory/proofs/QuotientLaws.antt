@@ -12,8 +12,8 @@ use Rattle.theory.proofs.Deciding.{same_number, same_bytes, both}
 use Rattle.theory.proofs.Paths.{leads_map, leads_append, reachable_on}
 use Rattle.theory.proofs.Numbers.{number_of, first_number, number_below}
 
--- The class number of a reachable state is the quotient state that represents the class of this state. `Numbered` holds
--- if the state s is reachable and has the class number n.
+-- The class number of a reachable state is the number of the quotient state that the class of this state becomes.
+-- `Numbered` holds if the state s is reachable and has the class number n.
 abbrev pub Numbered : Relation → System → ℕ → ℕ → Type 0
 Numbered rel A s n = Reachable A s × Number rel A s n
 

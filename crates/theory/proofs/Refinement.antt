@@ -78,7 +78,7 @@ module _ (rel : Relation) (A : System) (sys : IsSystem A) where
       ((split s t ls lt).0 ((alike s t ls lt).0 e)).1
 
   -- Different functions can describe the partition after k splits, because block IDs are arbitrary. If the next split
-  -- changes nothing for one of these functions, it changes nothing for each of these functions.
+  -- changes nothing for at least one of these functions, it changes nothing for each of these functions.
   pub no_change : (k : ℕ) (old new : ℕ → ℕ) → ChangesNothing rel A (suc k) → After rel A k old → Split rel A old new
       → SameBlocks A old new
   no_change k old new (old', new', after', split', same') after split =

@@ -50,8 +50,8 @@ pub fn leaders_are_counted()
 {}
 
 /// The leader of a reachable state is the state that represents its class. Each reachable state has exactly one leader.
-/// The class number of a reachable state is the quotient state that represents the class of this state. Each reachable
-/// state has exactly one class number.
+/// The class number of a reachable state is the number of the quotient state that the class of this state becomes. Each
+/// reachable state has exactly one class number.
 pub fn each_state_has_a_number()
     ensures leader { (rel : Relation) (A : System) (s : ℕ) → IsSystem A → Reachable A s →
         (l : ℕ) × Leader rel A s l }
@@ -63,8 +63,8 @@ pub fn each_state_has_a_number()
         Number rel A s m → Number rel A s n → m ≡ n }
 {}
 
-/// The class number of a reachable state is the quotient state that represents the class of this state. Two reachable
-/// states have the same class number if and only if they are bisimilar.
+/// The class number of a reachable state is the number of the quotient state that the class of this state becomes. Two
+/// reachable states have the same class number if and only if they are bisimilar.
 pub fn numbers_are_classes()
     ensures { (rel : Relation) (A : System) (s t m n : ℕ) → IsSystem A →
         Reachable A s → Reachable A t →

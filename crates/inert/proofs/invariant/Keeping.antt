@@ -22,8 +22,8 @@ abbrev pub AreSound : Under → List (List (ℕ × ℕ)) → Search → Type 0
 AreSound u signatures w = (j : ℕ) → j < length w.items → IsSound u signatures w j
 
 -- The stack is divided into components, which are strongly connected sets of states. Each component collects items:
--- pairs (label ID, block) and signature IDs. The root of a component is its first state on the stack. `KeepsStack`
--- compares the data of the search before a move (w) and after the move (`new`). It holds if all five of the following
+-- pairs (label ID, block) and signature IDs. The root of a component is its first state on the stack. The search has
+-- the data w before a move, and the data `new` after the move. `KeepsStack` holds if all five of the following
 -- conditions hold. First, the move changes neither the states below the index n of the stack nor their statuses.
 -- Second, if a component of w contains a state below the index n, all states of this component are below the index n.
 -- Third, the move does not change the items that the components below the index n have collected. Fourth, each root of

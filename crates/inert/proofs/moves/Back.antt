@@ -93,7 +93,7 @@ module _ {u : Under} {signatures : List (List (ℕ × ℕ))} {w : Search} (walks
     -- A component is a strongly connected set of states on the stack. Each frame belongs to a state on the stack, and
     -- records which outgoing transitions of this state are still to be read. Suppose that all outgoing transitions of
     -- the state to which the last frame belongs were read, and that this state is not the first state of a component on
-    -- the stack. Then the invariant of the search still holds after the last frame was removed (`GoesOn`).
+    -- the stack. If the search then removes the last frame, the invariant of the search still holds (`GoesOn`).
     pub popped_on : GoesOn u signatures signatures w (popped w)
     popped_on = stays_on SearchInvariant-pop refl
 

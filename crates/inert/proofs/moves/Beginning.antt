@@ -38,8 +38,9 @@ framed s next end stages items = with_pushed s next end 0 (collecting stages ite
 -- points, the search has read the transitions of s at the places j (indices in the list of all transitions) with
 -- `start` <= j < k. `Begins` holds if all three of the following conditions hold. First, the search has gone on from
 -- `old` to w (`GoesOn`). Second, s is not unvisited in w. Third, the number of visits (reads that the meter counts)
--- that the search has to make from `old` on is the sum of two numbers: the number of visits that it has to make from w
--- on, and the number of visits that reading these transitions of s took. The number k must be at least `start`.
+-- that the search with the data `old` still has to make is the sum of two numbers. The first of these numbers is the
+-- number of visits that the search with the data w still has to make. The second number is the number of visits that
+-- the search has made between the two points. The number k must be at least `start`.
 pub record Begins (u : Under) (before signatures : List (List (ℕ × ℕ))) (old : Search) (s start k : ℕ) (w : Search) :
     Type 0
   where
@@ -51,7 +52,7 @@ pub record Begins (u : Under) (before signatures : List (List (ℕ × ℕ))) (ol
 -- A frame records which outgoing transitions of a state on the stack are still to be read. Suppose that no search is in
 -- progress, and that the unvisited state s is then pushed with a frame for all of its outgoing transitions. Then the
 -- invariant of the search still holds, and the number of visits (reads of transitions that the meter counts) that the
--- search has to make has not changed (`Begins`).
+-- search still has to make has not changed (`Begins`).
 pub begins : {u : Under} {signatures : List (List (ℕ × ℕ))} {w : Search} {s start end : ℕ} → Laws
     → IsAtRest u signatures w → s < u.l.states → stage_at w.stages s ≡ Unvisited → IsRow u.l.places s start end
     → Begins u signatures signatures w s start start (framed s start end w.stages w.items)
@@ -80,9 +81,9 @@ module _ (laws : Laws) {u : Under} (lts : IsLts u.l) {signatures : List (List (�
 
     -- A place is an index in the list of all transitions. A frame records which outgoing transitions of a state are
     -- still to be read. Suppose that `Begins` holds for the first state s of the search and for the place k. This means
-    -- that the search has read the transitions of s before the place k. Suppose also that s is on the stack with a
-    -- frame for its transitions after the place k, and that the search then processes the transition at the place k.
-    -- Then `Begins` holds for the place k + 1.
+    -- that the search has read the transitions of s at the places j with `start` <= j < k. Suppose also that s is on
+    -- the stack with a frame for its transitions at the places greater than k, and that the search then processes the
+    -- transition at the place k. Then `Begins` holds for the place k + 1.
     pub takes_framed : (step : Step) {m : Search} (enters : Bool) → Is step →
         HandlesStep u.l.places step (framed s (k + 1) end old.stages w.items) m enters → Next m
     takes_framed step enters is takes =
@@ -96,8 +97,8 @@ module _ (laws : Laws) {u : Under} (lts : IsLts u.l) {signatures : List (List (�
     -- A place is an index in the list of all transitions. A frame records which outgoing transitions of a state are
     -- still to be read. Suppose that the transition at the place k is not inert, or that its target is completed. If
     -- the search processes this transition without pushing its first state s, two facts hold. First, the stack is still
-    -- empty. Second, if s were on the stack with a frame for its transitions after the place k, `Begins` would hold for
-    -- the place k + 1.
+    -- empty. Second, if s were on the stack with a frame for its transitions at the places greater than k, `Begins`
+    -- would hold for the place k + 1.
     module _ (none : stage_at old.stages s ≡ Unvisited) where
       abbrev Collects : Search → Type 0
       Collects m = (m ≡ collecting old.stages m.items) × Next (framed s (k + 1) end old.stages m.items)

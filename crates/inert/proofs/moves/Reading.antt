@@ -142,32 +142,33 @@ marked_first places w enters (Goes t) low (inr (inr (id, stage, new, stay))) =
     (with_item (Interned id) w, inr (inr (id, stage, refl, stay)), new)
 
 -- The last frame of the search records which outgoing transitions of the current state are still to be read. `Reads`
--- describes a search that has gone from `old` to `new` by reading all transitions before the place (index) k that the
--- last frame of `old` records. It holds if all three of the following conditions hold. First, the search has gone on
--- from `old` to `new` (`GoesOn`). Second, in `new`, the next transition of this frame is at the place k. Third, the
--- number of visits (reads that the meter counts) that the search has to make from `old` on is the sum of two numbers:
--- the number of visits that it has to make from `new` on, and the number of visits that reading these transitions took.
--- The number k must be at least the field `next` of the last frame of `old`.
+-- describes a search that has gone from `old` to `new` by reading the transitions at the places (indices) less than k
+-- that the last frame of `old` records. It holds if all three of the following conditions hold. First, the search has
+-- gone on from `old` to `new` (`GoesOn`). Second, in `new`, the next transition of this frame is at the place k. Third,
+-- the number of visits (reads that the meter counts) that the search with the data `old` still has to make is the sum
+-- of two numbers. The first of these numbers is the number of visits that the search with the data `new` still has to
+-- make. The second number is the number of visits that the search has made between `old` and `new`. The number k must
+-- be at least the field `next` of the last frame of `old`.
 pub record Reads (u : Under) (signatures : List (List (ℕ × ℕ))) (old new : Search) (k : ℕ) : Type 0 where
   pub on : GoesOn u signatures signatures old new
   pub here : frame_at new.frames (length old.frames - 1) ≡ record (top old.frames) { next = k }
   pub forward : (top old.frames).next ≤ k
   pub less : ahead u new + price_between u.visited (top old.frames).next k ≡ ahead u old
 
--- A frame records which outgoing transitions of a state on the stack are still to be read. `Stays` compares the data of
--- the search at two points `old` and `new`. It holds if the stack, the number of frames and the number of unvisited
--- states are the same at both points. While the search reads transitions of the current state, this is the case as long
--- as no state is pushed.
+-- A frame records which outgoing transitions of a state on the stack are still to be read. The search has the data
+-- `old` at one point, and the data `new` at another point. `Stays` holds if the stack, the number of frames and the
+-- number of unvisited states are the same at both points. While the search reads transitions of the current state, this
+-- is the case as long as no state is pushed.
 pub record Stays (old new : Search) : Type 0 where
   pub size : length new.frames ≡ length old.frames
   pub stack : new.stack ≡ old.stack
   pub unseen : unseen new.stages ≡ unseen old.stages
 
 -- The last frame of the search records which outgoing transitions of the current state are still to be read. `Marked`
--- holds if the search has gone from `old` to `new` by reading all transitions that the last frame of `old` records at
--- the place (index) k and before it. If the flag `enters` is false, no state was pushed, and `Stays` holds. If the flag
--- `enters` is true, the value of `steps` has decreased. This value is an upper bound for the number of states that the
--- search still pushes plus the number of frames that it still pops.
+-- holds if the search has gone from `old` to `new` by reading the transitions at the places (indices) up to and
+-- including k that the last frame of `old` records. If the flag `enters` is false, no state was pushed, and `Stays`
+-- holds. If the flag `enters` is true, the value of `steps` has decreased. This value is an upper bound for the number
+-- of states that the search still pushes plus the number of frames that it still pops.
 pub record Marked (u : Under) (signatures : List (List (ℕ × ℕ))) (old new : Search) (k : ℕ) (enters : Bool) : Type 0
   where
     pub reads : Reads u signatures old new (k + 1)
@@ -206,9 +207,9 @@ module _ {u : Under} {signatures : List (List (ℕ × ℕ))} {first w : Search} 
       same_last : i ≡ length w.frames - 1
       same_last = omega (arith, stays.size, last)
 
-      -- Suppose that the search has read all transitions of the current state before the place (index) k. It then first
-      -- processes the transition at the place k, and afterwards marks it as read. After both steps, the condition
-      -- `Marked` holds, which includes the invariant of the search.
+      -- Suppose that the search has read the transitions of the current state at the places (indices) less than k. It
+      -- then first processes the transition at the place k, and afterwards marks it as read. After both steps, the
+      -- condition `Marked` holds, which includes the invariant of the search.
       taken_first : (m : Search) (enters : Bool) → HandlesStep u.l.places step w m enters
           → Marked u signatures first (record m { frames = set m.frames i x }) k enters
       taken_first m enters takes =
@@ -238,9 +239,9 @@ module _ {u : Under} {signatures : List (List (ℕ × ℕ))} {first w : Search} 
           let one = price_one_more u.visited (top first.frames).next k reads.forward in
           grind (arith, on, here, remaining, is_next, next, before, took, reads, one, length-set m.frames i x, stays)
 
-      -- Suppose that the search has read all transitions of the current state before the place (index) k. It then first
-      -- marks the transition at the place k as read, and afterwards processes it. Then the invariant of the search
-      -- still holds (`Marked`).
+      -- Suppose that the search has read the transitions of the current state at the places (indices) less than k. It
+      -- then first marks the transition at the place k as read, and afterwards processes it. Then the invariant of the
+      -- search still holds (`Marked`).
       pub marked : {m : Search} {enters : Bool} →
           HandlesStep u.l.places step (record w { frames = set w.frames i x }) m enters
           → Marked u signatures first m k enters

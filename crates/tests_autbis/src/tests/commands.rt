@@ -260,7 +260,8 @@ fn is_closed(alloc: Global, fault: &WordFault) -> bool {
     status == 5 && said.as_slice() == b"autbis: read or write failed\n".as_slice()
 }
 
-/// Returns true if a help text is written to standard output, and this text contains `part`.
+/// Returns true if the command line asks for a help text that contains `part`, and the command writes exactly this text
+/// to standard output and succeeds.
 fn helps(found: &Answer, part: &str) -> bool {
     match &found.fault {
         WordFault::Help(text) => shows(found, text) && text.as_str().contains(part),
@@ -268,7 +269,8 @@ fn helps(found: &Answer, part: &str) -> bool {
     }
 }
 
-/// Returns true if `text` is written to standard output, and no error is reported.
+/// Returns true if the command writes exactly `text` to standard output, writes nothing to standard error, and returns
+/// the exit status 0.
 fn shows(found: &Answer, text: &str) -> bool {
     found.status == 0 && found.said.is_empty() && found.shown.as_slice() == text.as_bytes()
 }

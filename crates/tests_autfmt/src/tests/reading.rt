@@ -1,5 +1,6 @@
-//! Functions that run examples of the other files. These functions read inputs in chunks of several sizes. Then they
-//! check the error that reading returns, or they write the system that was read, and check the output.
+//! Functions that run examples. Other files in this folder define the examples, and call these functions. These
+//! functions read inputs in chunks of several sizes. Then they check the error that reading returns, or they write the
+//! system that was read, and check the output.
 use autfmt::{
     Fault, Hidden, Limits, Sink, SliceSource, VecSink, read, read_hidden, read_hiding, write,
 };

@@ -12,7 +12,7 @@ use test_support::check;
 
 const TEXT: &[u8] = b"des (0,2,3)\n(0,a,1)\n(0,a,2)\n";
 
-/// Adds `count` bytes to the line buffer. Returns false if the line buffer has no room for one of these bytes, and true
+/// Adds `count` bytes to the line buffer. Returns true if the line buffer has room for all of these bytes, and false
 /// otherwise.
 fn takes_bytes(line: &mut LineBuffer, count: usize) -> bool {
     for _ in 0..count {
@@ -159,7 +159,7 @@ fn a_reader_gives_its_bytes(rt: HostRuntime) -> Result<(), Fail> {
 }
 
 /// Writes `bytes` to a sink (the object to which the output is written) that passes them on to `writer`. Returns
-/// whether all bytes were written, and the number of failures of the sink.
+/// whether all bytes were written, and the number of times that the sink has failed.
 fn put<W: Write>(writer: &mut W, bytes: &[u8]) -> (bool, u32) {
     let mut sink = ToWrite::new(writer);
     let put = put_all(&mut sink, bytes);
@@ -269,7 +269,7 @@ fn a_write_error_is_a_failure(_rt: HostRuntime) -> Result<(), Fail> {
 }
 
 /// Calls `finish` of a sink (the object to which the output is written). Returns whether the call succeeds, the number
-/// of failures of the sink, and the number of flushes of the writer.
+/// of times that the sink has failed, and the number of flushes of the writer.
 fn finished(fails: bool) -> (bool, u32, u32) {
     let mut tight = with_room(fails);
     let mut sink = ToWrite::new(&mut tight);

@@ -1,7 +1,8 @@
--- A leader is a state that represents its class, and the class number of a class is the state of the quotient that
--- represents the class. This file proves which leaders, class numbers and quotients given systems have. The classes and
--- leaders of each system are described by a record, which is called the census of the system (`Census`). The function
--- `is_census` checks that the census is correct, and the facts about the system follow from the census.
+-- A leader is a state that represents its class. In the quotient, each class becomes one state, and the class number of
+-- the class is the number of this quotient state. This file proves which leaders, class numbers and quotients given
+-- systems have. The classes and leaders of each system are described by a record, which is called the census of the
+-- system (`Census`). The function `is_census` checks that the census is correct, and the facts about the system follow
+-- from the census.
 use Rattle.std.proofs.Common.{◌≡◌, ℕ, Bool, true, not, eqb, List, [], ◌∷◌, length, map, slice_index, subst}
 use Rattle.std.proofs.lemmas.Bool.{eqb-true}
 use Rattle.theory.specs.System.{System, Reachable}
@@ -74,7 +75,8 @@ are_quotients rel ((A, Q, told) ∷ rest) h =
 
 -- A census describes the classes of a system, and the leaders, which are states that represent their classes. Suppose
 -- that the census is correct, that the state s is reachable, and that the function `number_at` computes the number n
--- for the leader of s in the census. Then n is the class number of s, which is the quotient state that represents s.
+-- for the leader of s in the census. Then n is the class number of s, which is the number of the quotient state that
+-- the class of s becomes.
 pub is_number :
     (rel : Relation) (A : System) (s n : ℕ) (told : Census) → is_census rel A told ≡ true →
     and_then (has (reachable A) s) (λ _. eqb (number_at A told.leaders (told.lead s)) n) ≡ true → Number rel A s n
@@ -101,7 +103,8 @@ is_led rel A s l told h d =
 
 -- A census describes the classes of a system, and the leaders, which are states that represent their classes.
 -- `lists_numbers` returns true if all states are reachable, and the list `numbers` gives the class number of each state
--- according to the census. The class number of a state is the quotient state that represents the class of the state.
+-- according to the census. The class number of a state is the number of the quotient state that the class of this state
+-- becomes.
 abbrev pub lists_numbers : System → List ℕ → Census → Bool
 lists_numbers A numbers told =
     and_then (eqb (length numbers) A.states) (λ _.
@@ -123,7 +126,7 @@ numbers_are rel A numbers told h d =
 -- A census describes the classes of a system, and the leaders, which are states that represent their classes. Suppose
 -- that the census of A is correct, that the test `divides` (is a system the quotient of A?) returns true for Q, and
 -- that `lists_numbers` returns true for the list `numbers`. Then Q is the quotient of A, and the list `numbers` gives
--- the class number of each state of A, which is the quotient state that represents this state.
+-- the class number of each state of A, which is the number of the quotient state that the class of this state becomes.
 pub quotient_is :
     (rel : Relation) (A Q : System) (numbers : List ℕ) (told : Census) → is_census rel A told ≡ true →
     divides rel A told.lead told.leaders Q ≡ true → lists_numbers A numbers told ≡ true → QuotientIs rel A Q numbers

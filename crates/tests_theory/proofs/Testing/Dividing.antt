@@ -79,7 +79,8 @@ dropped_back Branching e h =
     (eq-eqb e.source e.target h.1)
 
 -- `image` returns the transition of the quotient that represents the transition e of A. In this transition, the source
--- and the target of e are replaced by their class numbers, which are the quotient states for their classes.
+-- and the target of e are replaced by their class numbers, which are the numbers of the quotient states that their
+-- classes become.
 abbrev pub image : System → (ℕ → ℕ) → List ℕ → Transition → Transition
 image A lead leaders e =
     record {

@@ -192,8 +192,8 @@ unanswered_fails Branching A B d R apart s t h answer =
     ]
 
 -- `differ` returns true if the states s of A and t of B differ after k rounds. No two states differ after 0 rounds. For
--- k > 0, two states differ after k rounds if one of them has a transition that the other one cannot match, since each
--- possible match leads to states that differ after k - 1 rounds.
+-- k > 0, two states differ after k rounds if at least one of them has a transition that the other state cannot match,
+-- since each possible match leads to states that differ after k - 1 rounds.
 abbrev pub differ : Relation → System → System → ℕ → ℕ → ℕ → Bool
 differ rel A B zero s t = false
 differ rel A B (suc k) s t =

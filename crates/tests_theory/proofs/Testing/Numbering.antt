@@ -1,6 +1,6 @@
--- A leader is a state that represents its class, and the class number of a class is the state of the quotient that
--- represents the class (states are numbers). This file computes the class numbers of states from a list of all leaders.
--- The lemmas prove that these class numbers are correct.
+-- A leader is a state that represents its class. In the quotient, each class becomes one state, and the class number of
+-- the class is the number of this quotient state. This file computes the class numbers of states from a list of all
+-- leaders. The lemmas prove that these class numbers are correct.
 use Rattle.std.proofs.Common.{◌≡◌, ◌≢◌, ◌⊎◌, ◌↔◌, ℕ, ◌+◌, ◌<◌, Bool, true, not, cond, eqb, ltb, ltb-true, List, length}
 use Rattle.std.proofs.Common.{filter, Contains, refl, sym, ◌∙◌, ap, inl, inr}
 use Rattle.std.proofs.lemmas.Bool.{eq-eqb, lt-ltb, ne_eqb, cases_eq, not_from_false}
@@ -20,9 +20,9 @@ use Rattle.tests_theory.proofs.Testing.Leading.{are_leaders, leader_is, leader_l
 abbrev pub is_before : System → ℕ → ℕ → Bool
 is_before A l m = and_then (ltb m l) (λ _. not (eqb m A.first))
 
--- `number_at` returns the class number (the quotient state) of the class that the leader l represents. The class number
--- is 0 if l is the first state. Otherwise, the class number is 1 plus the number of leaders that are smaller than l and
--- are not the first state.
+-- `number_at` returns the class number of the class that the leader l represents, which is the number of the quotient
+-- state that this class becomes. The class number is 0 if l is the first state. Otherwise, the class number is 1 plus
+-- the number of leaders that are smaller than l and are not the first state.
 abbrev pub number_at : System → List ℕ → ℕ → ℕ
 number_at A leaders l = cond (eqb l A.first) 0 (1 + length (filter (is_before A l) leaders))
 

@@ -1,5 +1,5 @@
--- The functions in this file test how many splits the refinement of a given system makes. The last of these splits is
--- the first split that changes nothing.
+-- The functions in this file test whether a list of splits contains exactly the splits that the refinement of a given
+-- system makes. Refinement makes splits until a split changes nothing, and this split is the last one.
 use Rattle.std.proofs.Common.{◌≡◌, ◌≢◌, ℕ, zero, suc, ◌<◌, ◌≤◌, Bool, true, not, eqb, ltb, ltb-true, List, [], ◌∷◌}
 use Rattle.std.proofs.Common.{length, map, slice_index, sym, subst, arith}
 use Rattle.std.specs.List.{slice_index_or}

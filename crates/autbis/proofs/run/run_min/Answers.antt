@@ -41,9 +41,9 @@ returns-in_err-quotient-clause-outcome g c =
 abbrev sizes_of : ℕ → ℕ → Counts
 sizes_of s t = record { states = s; transitions = t }
 
--- The input describes a system, in which the labels to hide are then hidden. The system in memory differs from the
--- resulting system only in the order of its transitions. Therefore results about the system in memory hold for the
--- resulting system as well.
+-- The input describes a system, and the labels to hide are then hidden in this system. The system in memory differs
+-- from the resulting system only in the order of its transitions. Therefore results about the system in memory hold for
+-- the resulting system as well.
 module _ (g : Over) (c : After-write g) where
   abbrev asked : Request
   asked = asks c.args.rel c.args.lim.now c.args.h.now

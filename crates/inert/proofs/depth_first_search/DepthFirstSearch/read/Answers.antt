@@ -44,8 +44,10 @@ step-step-requires-clause-room g c = let i = c.loop-k.invariant in
     let most = most g (goal.at.step-step-requires-clause-room g c).After-index i.reads i.stays c.loop-k-test.true in
     omega (arith, c.requires.room, i.cost, i.reads.less, most)
 
--- The place of a transition is its index in the list of all transitions. Each iteration of the loop in `read` marks the
--- transition at the place k as read, and then processes this transition (`Marked`).
+-- The place of a transition is its index in the list of all transitions. The variable k of the loop in `read` is the
+-- place of the next transition of the current state. Each iteration of the loop first marks this transition as read,
+-- and then processes it. After both steps, the condition `Marked` holds: `read` has read the transitions at the places
+-- up to and including k.
 taken : (g : Over) (c : In_ok-handle_step g) → Marked c.args.lens.now c.args.signatures.now c.args.self.now
     c.handle_step.new.self c.loop-k.k c.in_ok-handle_step.field-0
 taken g c = let i = c.loop-k.invariant in let d = (goal.at.In_ok-handle_step g c).After-index in
