@@ -57,7 +57,7 @@ pub last_quote-at : (a rest : List ℕ) → HasNoQuote rest → last_quote (a ++
 last_quote-at [] rest h = last_quote-step 34 rest None (last_quote-none rest h)
 last_quote-at (b ∷ a) rest h = last_quote-step b _ (Some (length a)) (last_quote-at a rest h) ∙ rw add-one refl
 
--- `HasQuoteAt bytes i` holds if there is a quotation mark at the index i of the bytes.
+-- `HasQuoteAt bytes i` holds if there is a quotation mark at the index i of the list `bytes`.
 abbrev HasQuoteAt : List ℕ → ℕ → Type 0
 HasQuoteAt bytes i = bytes ≡ take i bytes ++ 34 ∷ drop (i + 1) bytes
 

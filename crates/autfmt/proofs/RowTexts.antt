@@ -22,8 +22,9 @@ abbrev pub text_to : Grouped → Words → List Triple → List ℕ
 text_to g words order = header_of g.first (length g.places) g.states ++ written_lines words.entries.items order
 
 -- `RowsWait g words old new waiting s` holds if the header and the lines of all transitions with a source less than s
--- have been produced. States are numbers, so that they can be compared with s. A prefix of these bytes was written to
--- the sink (the object to which the output is written), and the other bytes are in the buffer.
+-- have been produced. States are numbers, so that they can be compared with s. A prefix of the text that consists of
+-- the header and of these lines was written to the sink (the object to which the output is written), and the rest of
+-- this text is in the buffer.
 pub record RowsWait (g : Grouped) (words : Words) (old new : Option (List ℕ)) (waiting : List ℕ) (s : ℕ) : Type 0 where
   pub order : List Triple
   pub ordered : AreOrdered words.ranks.items g.places s order

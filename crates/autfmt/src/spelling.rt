@@ -154,9 +154,9 @@ pub(crate) fn append_transition(
     append_target(buffer, end, target)
 }
 
-/// Writes a label, a comma and a space at the index `end` of the buffer. Returns the index after the space. If these
-/// bytes were prepared before, the function copies the whole array that stores them, because copying an array of fixed
-/// length needs no function call.
+/// Writes a label, a comma and a space at the index `end` of the buffer. Returns the index after the space. If the
+/// label with the comma and the space was prepared before, the function copies the whole array that stores these bytes,
+/// because copying an array of fixed length needs no function call.
 fn append_word(buffer: &mut [u8], end: usize, word: Word<'_>) -> usize
     requires room { (end + SHORT ≤ length buffer.old)
         × (end + 4 + length word.label.now ≤ length buffer.old) }

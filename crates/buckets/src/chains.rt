@@ -32,8 +32,8 @@ pub fn bucket(tag: u32, buckets: usize) -> usize
 }
 
 /// Searches the chain of a bucket, which links the IDs of the entries in the bucket in descending order. The search
-/// begins with the ID `first`. Returns the greatest ID in this part of the chain whose entry has the tag `tag` (a hash
-/// of 32 bits), or 0 if there is no such ID.
+/// begins with the ID `first`. Returns the greatest ID in the chain that is at most `first` and whose entry has the tag
+/// `tag` (a hash of 32 bits), or 0 if there is no such ID.
 #[inline(always)]
 pub(crate) fn down(entries: &[Entry], tag: u32, first: u32) -> u32
     requires within { first < length entries.now }

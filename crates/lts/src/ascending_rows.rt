@@ -19,8 +19,8 @@ const FIRST_CAPACITY: usize = 1024;
 
 pub(crate) struct Rows {
     /// The end of the row of a state is the index after its last transition. Let s be the source of the transition that
-    /// was appended last. This vector contains the ends of the rows of the states 0 to s - 1. All transitions after
-    /// these rows have the source s.
+    /// was appended last. For each of the states 0 to s - 1, this vector contains the end of the row of the state. All
+    /// transitions after these rows have the source s.
     ends: Vec<u32>,
     /// The label ID and the target of each transition.
     pairs: Vec<(u32, u32)>,
@@ -132,9 +132,10 @@ fn end_rows(ends: &mut Vec<u32>, source: usize, end: u32) -> Result<(), AllocErr
 }
 
 /// The row of a state consists of its outgoing transitions. The list `ends` contains, for each state less than its
-/// length, the index after the last transition of the row. No row of a state less than `from` may end after the index
-/// `place`. Returns the first state that is at least `from` and whose row ends after this index. The transition at this
-/// index is in the row of this state. If no row in `ends` ends after `place`, the result is the length of `ends`.
+/// length, the index after the last transition of the row. For each state less than `from`, this index must be at most
+/// `place`. Returns the first state that is at least `from` and whose index in `ends` is greater than `place`. The
+/// transition at the index `place` is in the row of this state. If no index in `ends` is greater than `place`, the
+/// result is the length of `ends`.
 fn row_at(ends: &[u32], from: usize, place: usize) -> usize
     requires passed { (s : ℕ) → s < from → slice_index ends.now s ≤ place }
     requires within { from ≤ length ends.now }

@@ -149,8 +149,8 @@ impl Interner {
     /// Tests quickly whether the list with the last ID in `lists` contains all pairs of the other lists with an ID in
     /// `lists`, and all pairs in `pairs`. If the test succeeds, this list is the union of all these lists and of
     /// `pairs`. The call then returns the ID of this list, so that nothing has to be sorted. If the test fails, or if
-    /// `lists` contains fewer than two IDs, the call returns `None`. The test can fail even if the list contains all
-    /// these pairs.
+    /// `lists` contains fewer than two IDs, the call returns `None`. The test can fail even if the list with the last
+    /// ID contains all pairs of the other lists and all pairs in `pairs`.
     fn last_with_all(&self, lists: &[u32], pairs: &[(u32, u32)]) -> Option<u32>
         requires { AreIds self.now lists.now }
         ensures within { IfSome result (λ k. k < length self.now) }

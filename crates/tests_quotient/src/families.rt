@@ -79,8 +79,8 @@ const TREE_3: &str =
     "7 of 8; 0 i 1; 1 i 2; 0 l0 3; 1 l1 3; 2 l2 3; 4 i 0; 4 i 2; 7 go 4; 5 i 1; 5 i 1; 7 go 5; \
     6 i 2; 6 i 0; 7 go 6";
 
-/// These systems have cycles of inert steps. Some states outside of these cycles have the same signatures as the states
-/// on a cycle, but these signatures result from other transitions.
+/// The systems in this list have cycles of inert steps. Some states outside of these cycles have the same signatures as
+/// the states on a cycle, but these signatures result from other transitions.
 const CYCLES: [Family; 2] = [
     (
         "entry 4",
@@ -104,8 +104,8 @@ const CYCLES: [Family; 2] = [
     ),
 ];
 
-/// In these systems, several states have inert steps to the same targets. So refinement has to compute the union of the
-/// signatures of these targets several times.
+/// In the systems in this list, several states have inert steps to the same targets. So refinement has to compute the
+/// union of the signatures of these targets several times.
 const UNIONS: [Family; 4] = [
     (
         "hubs 3",
@@ -149,9 +149,9 @@ const UNIONS: [Family; 4] = [
     ),
 ];
 
-/// In some of these systems, the signatures of several states are unions of signatures, and any two of these unions
-/// differ in only a few pairs. In the other systems, several states have signatures that result from one long signature
-/// by adding one pair. In the system `own 3`, this long signature already contains the added pair.
+/// In some of the systems in this list, the signatures of several states are unions of signatures, and any two of these
+/// unions differ in only a few pairs. In the other systems, several states have signatures that result from one long
+/// signature by adding one pair. In the system `own 3`, this long signature already contains the added pair.
 const NEARLY_EQUAL: [Family; 6] = [
     (
         "twins 2",
@@ -215,7 +215,8 @@ const NEARLY_EQUAL: [Family; 6] = [
     ),
 ];
 
-/// These systems are chains of inert steps in which each state has a transition with a label that no other state has.
+/// The systems in this list are chains of inert steps in which each state has a transition with a label that no other
+/// state has.
 const CHAINS: [Family; 3] = [
     (
         "tail 4",

@@ -147,7 +147,7 @@ fn check_row(alloc: Global, signatures: &mut Interner, row: &Row) -> Result<(), 
 }
 
 /// Computes the union of the two lists of the example in two other ways, and interns the list of all pairs of the
-/// union. Fails if one of the results does not have the ID `union`.
+/// union. Fails if at least one of the results does not have the ID `union`.
 fn check_again(
     alloc: Global,
     signatures: &mut Interner,
@@ -180,7 +180,7 @@ fn equal_lists_have_one_number(rt: HostRuntime) -> Result<(), Fail> {
 }
 
 /// Adds 200 pairs to a list, one after the other. The list becomes so long that it is stored as a tree of several
-/// levels. Fails if a pair is missing in one of the resulting lists.
+/// levels. Fails if a pair is missing in at least one of the resulting lists.
 fn check_growth(alloc: Global, signatures: &mut Interner) -> Result<(), Fail> {
     let mut whole = Vec::new(alloc);
     let mut last = EMPTY;
@@ -202,8 +202,8 @@ fn a_list_grows_by_a_pair(rt: HostRuntime) -> Result<(), Fail> {
 }
 
 /// Makes lists, removes all of them from the table, so that only the empty list remains, and makes the same lists
-/// again. Fails if other lists remain, if a pair is missing in one of the new lists, or if the list of the single pair
-/// (0, 0) does not have the ID 1.
+/// again. Fails if other lists remain, if a pair is missing in at least one of the new lists, or if the list of the
+/// single pair (0, 0) does not have the ID 1.
 fn check_clear(alloc: Global, signatures: &mut Interner) -> Result<(), Fail> {
     check_growth(alloc, signatures)?;
     signatures.clear();

@@ -41,8 +41,8 @@ module _ {u : Under} {signatures : List (List (ℕ × ℕ))} {w : Search} (walks
   popped_same i h = (omega (arith, popped_size, h), get_or-take (length w.frames - 1) w.frames i no_frame h)
 
   -- Each frame belongs to a state on the stack, and records which outgoing transitions of this state are still to be
-  -- read. Suppose that a state with a frame is below the state of the last frame on the stack. Then this lower state
-  -- still has a frame after the last frame was popped.
+  -- read. Suppose that a state with a frame is below the state of the last frame on the stack. If the last frame is
+  -- popped, this lower state still has a frame.
   popped_framed : (p : ℕ) → p < here w → (i : ℕ) × (i < length w.frames) × ((frame_at w.frames i).height ≡ p)
       → (i : ℕ) × (i < length (popped w).frames) × ((frame_at (popped w).frames i).height ≡ p)
   popped_framed p before (i, low, is) = grind (arith, not_last walks i low, before, popped_same i, is)

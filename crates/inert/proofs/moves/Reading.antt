@@ -77,7 +77,7 @@ module _ (laws : Laws) {u : Under} (lts : IsLts u.l) {signatures : List (List (�
   stayed roots items enters after done stay = let on = stays_on {old = w} after refl in grind (arith, on, done, stay)
 
   -- These lemmas assume that the transition e is inert. Its target can be unvisited, on the stack, or completed. In
-  -- each case, the invariant of the search still holds after e was processed (`Taken`).
+  -- each case, the invariant of the search still holds after the search has processed e (`Taken`).
   module _ (inert : IsInert u (slice_index u.blocks (source_of e)) e) where
     inert_done : (m : Search) → IsFollowed signatures m (here w) (target_of e) → IsHandled u signatures m (here w) e
     inert_done m is = record { shown = λ other. absurd (other inert); followed = λ _. is }
@@ -111,7 +111,8 @@ module _ (laws : Laws) {u : Under} (lts : IsLts u.l) {signatures : List (List (�
         (inert_done (with_item (Interned id) w)
         (inr (inl (id, stage, collected_holds walks (Interned id))))) stay)
 
-  -- The invariant of the search still holds after the transition e was processed, whether or not e is inert (`Taken`).
+  -- The invariant of the search still holds after the search has processed the transition e, whether or not e is inert
+  -- (`Taken`).
   pub taken : (step : TakenStep) (m : Search) (enters : Bool) → IsStep u (slice_index u.blocks (source_of e)) e step
       → HandlesStep u.l.places step w m enters → Taken m enters
   taken (Shows a b) m enters (other, is) (new, stay) =
@@ -144,11 +145,11 @@ marked_first places w enters (Goes t) low (inr (inr (id, stage, new, stay))) =
 -- The last frame of the search records which outgoing transitions of the current state are still to be read. `Reads`
 -- describes a search that has gone from `old` to `new` by reading the transitions at the places (indices) less than k
 -- that the last frame of `old` records. It holds if all three of the following conditions hold. First, the search has
--- gone on from `old` to `new` (`GoesOn`). Second, in `new`, the next transition of this frame is at the place k. Third,
--- the number of visits (reads that the meter counts) that the search with the data `old` still has to make is the sum
--- of two numbers. The first of these numbers is the number of visits that the search with the data `new` still has to
--- make. The second number is the number of visits that the search has made between `old` and `new`. The number k must
--- be at least the field `next` of the last frame of `old`.
+-- gone on from `old` to `new` (`GoesOn`). Second, `new` contains the last frame of `old` at the same index, except that
+-- the field `next` of this frame is k in `new`. Third, the number of visits (reads that the meter counts) that the
+-- search with the data `old` still has to make is the sum of two numbers. The first of these numbers is the number of
+-- visits that the search with the data `new` still has to make. The second number is the number of visits that the
+-- search has made between `old` and `new`. The number k must be at least the field `next` of the last frame of `old`.
 pub record Reads (u : Under) (signatures : List (List (ℕ × ℕ))) (old new : Search) (k : ℕ) : Type 0 where
   pub on : GoesOn u signatures signatures old new
   pub here : frame_at new.frames (length old.frames - 1) ≡ record (top old.frames) { next = k }

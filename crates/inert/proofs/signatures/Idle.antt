@@ -37,10 +37,10 @@ module _ {u : Under} {before signatures : List (List (ℕ × ℕ))} {active : Li
       }
 
   -- The active states are the states that the round processes. These lemmas make three assumptions. First, each state
-  -- that is not active has the ID 0 in the list `old`. Second, before the search, the cached signature ID of each
-  -- active state was written to the list `old`. This changed the list `old` to the list `put`. Third, after the search,
-  -- each of the IDs that were written was replaced by the ID that is used to split the block of the state. This changed
-  -- the list `put` to the list `signature_ids`.
+  -- that is not active has the ID 0 in the list `old`. Second, the list `put` results from `old` when the ID that is
+  -- cached for each active state before the search is written to the list. Third, the list `signature_ids` results from
+  -- `put` when each of the IDs that were written is replaced, after the search, by the ID that is used to split the
+  -- block of the state.
   module _ (old put signature_ids : List ℕ) (none : InactiveHaveNone active old)
       (sizes : length signature_ids ≡ length old)
       (were : (i : ℕ) → i < length active → let s = slice_index active i in

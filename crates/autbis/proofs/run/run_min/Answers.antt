@@ -145,7 +145,7 @@ module _ (g : Over) (c : After-write g) where
   begun old new (front, later, (listing, order, is), gained) = (to listing order, (front, later, sym is, gained))
 
   -- `far` proves that the input was read to its end, and that the numbers of rounds and visits (reads of transitions)
-  -- on the meter are within the bounds for a minimisation of this system.
+  -- on the meter are within the bounds for a minimisation of the system that the input describes.
   far : {In : Type 0} (source : Used In) → IsExhausted source →
       HasReadInput c.args.lim.now c.in_ok-system.ensures.outcome.given source (g.M.Meter.counted c.minimise.new.m)
   far source exhausted =
