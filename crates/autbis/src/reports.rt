@@ -99,8 +99,8 @@ fn report_unknown<E: Write>(word: &str, e: &mut E) -> u8
     3
 }
 
-/// Writes `b` to `e` until all bytes are written, or a write fails or writes no byte. Returns whether all bytes were
-/// written.
+/// Writes the bytes `b` to `e`. Stops when all bytes are written, when a write fails, or when a write writes no byte.
+/// Returns whether all bytes were written.
 pub fn say<E: Write>(b: &[u8], e: &mut E) -> bool
     ensures whole { IsTrue result → Appends (E.contents e.old) (E.contents e.new) b.now }
     ensures part { AppendsPrefix (E.contents e.old) (E.contents e.new) b.now }

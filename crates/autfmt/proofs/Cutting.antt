@@ -67,7 +67,8 @@ Cuts-behind front more e r one c = record {
 }
 
 -- Suppose that bytes without a line feed are put in front of a text that contains a line feed. Then the first line of
--- the result consists of these bytes and the first line of the text. The other lines and the rest stay the same.
+-- the result consists of these bytes and the first line of the text. The other lines, and the bytes after the last line
+-- feed, stay the same.
 pub Cuts-joined : (front more : List ℕ) (line : List ℕ) (e : List (List ℕ)) (r : List ℕ) →
     IsOneLine front → Cuts more (line ∷ e) r → Cuts (front ++ more) ((front ++ line) ∷ e) r
 Cuts-joined front more line e r one c = record {

@@ -106,8 +106,8 @@ short_last rest short = grind arith
 -- Suppose that each text has at most one first error (`First`), and that this error is `LineTooLong` only if the text
 -- contains a line that is too long. Let `given` be the bytes that have been read so far, and suppose that no line of
 -- `given` is too long. Suppose also that `LineTooLong k` is the first error of each text that consists of the complete
--- lines of `given` and one further line that is too long. Then the first error of the whole input still depends on the
--- bytes that may follow. If further bytes make the last line too long, the first error is `LineTooLong k`. If no bytes
+-- lines of `given` and one further line that is too long. Then the bytes `given` do not determine the first error of
+-- the whole input. If further bytes make the last line too long, the first error is `LineTooLong k`. If no bytes
 -- follow, there is no error or another first error.
 pub not_known :
     (First : List ℕ → Fault → Type 0) → ((text : List ℕ) (f g : Fault) → First text f → First text g → f ≡ g) →

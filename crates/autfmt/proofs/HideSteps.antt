@@ -88,8 +88,8 @@ module _ {given : List ℕ} {old : Cutting} {H hidden : List (List ℕ)} (got : 
       old.ahead ++ got ≡ [] → HideRefuses (given ++ got) rest failures Device
   hide_end_failed rest failures count failed goes_on none = grind (arith, hide_failed, All-nil)
 
-  -- If the next line is the label a, then the labels that have been read are the labels before this line and the label
-  -- a.
+  -- If the next line is the label a, then the labels that have been read after this line are the labels that had been
+  -- read before it, followed by a.
   pub hide_good :
       (now : Cutting) (a : List ℕ) (hidden' : List (List ℕ)) → (old.over ≡ true → ⊥) → CutsLine (old.ahead ++ got) now →
       Hides now.line a → AddsLabel hidden a hidden' → HideReadSoFar (given ++ got) now (H ++ a ∷ []) hidden'

@@ -39,7 +39,8 @@ pub record FirstHideFault (text : List ℕ) (fault : Fault) : Type 0 where
   pub few : length lines ≤ MOST_LINES
   pub faulty : HideFault (length lines + 1) line fault
 
--- `JudgedHideFault given fault` holds if `fault` is the first error of every hide list (the labels to hide) that begins
--- with the bytes `given`. Therefore a reader that has read only these bytes can already report the error.
+-- `JudgedHideFault given fault` holds if every hide list that begins with the bytes `given` has the first error
+-- `fault`. A hide list is a file that contains the labels to hide. Therefore a reader that has read only these bytes
+-- can already report the error.
 abbrev pub JudgedHideFault : List ℕ → Fault → Type 0
 JudgedHideFault given fault = (more : List ℕ) → FirstHideFault (given ++ more) fault

@@ -1,4 +1,4 @@
--- This file is about a list of bytes that begins with a transition in one of its most common written forms.
+-- This file defines lists of bytes that begin with a transition in one of its most common written forms.
 use Rattle.std.specs.Prelude.{◌≡◌, ◌⊎◌, ℕ, ◌<◌, ◌≤◌, ◌^◌, List, ◌∷◌, ◌++◌, length, take, slice_index, codes, decimal}
 use Rattle.std.specs.Char.{is_ascii_digit}
 use Rattle.std.specs.List.{prefix_len}

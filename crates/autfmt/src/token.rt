@@ -183,8 +183,8 @@ fn number_at(line: &[u8]) -> Option<(u64, &[u8])>
 }
 
 /// Completes the reading of a number. The first digits of this number have already been read, and denote the number
-/// `value`. The line begins with the remaining digits of the number. Returns the whole number and the bytes after the
-/// last digit. The result is `None` if a digit follows a leading zero, or if the number has more than ten digits.
+/// `value`. The line begins with the remaining digits of the number. Returns the complete number, and the bytes after
+/// its last digit. The result is `None` if a digit follows a leading zero, or if the number has more than ten digits.
 #[inline(always)]
 #[tactic(auto, unfolding(crate::specs::Reading::more_digits))]
 fn more_digits(value: u64, line: &[u8]) -> Option<(u64, &[u8])>

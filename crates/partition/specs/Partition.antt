@@ -16,7 +16,7 @@ pub record IsPartition (blocks : List ℕ) (count : ℕ) : Type 0 where
       (t : ℕ) × (t < s) × (slice_index blocks t ≡ b)
 
 -- `IsSomePartition` holds if `IsPartition` holds for some number of blocks. This means that, for some number n, the
--- block IDs are the numbers less than n, in the order of the least members of the blocks.
+-- block IDs are the numbers from 0 to n - 1, and that the blocks are numbered in the order of their least members.
 abbrev pub IsSomePartition : List ℕ → Type 0
 IsSomePartition blocks = (count : ℕ) × IsPartition blocks count
 

@@ -27,8 +27,8 @@ abbrev pub Follows : (ℕ → List ℕ → ℕ → Type 0) → List Bool → ℕ
 Follows R marked next waiting =
     (u v : ℕ) (a : List ℕ) → u < next → IsMarked marked u → R u a v → Contains waiting u ⊎ IsMarked marked v
 
--- Suppose that the list of marks contains exactly one entry for each state of the system. Then each marked state is a
--- state of the system.
+-- Suppose that the list of marks contains exactly one entry for each state of the system. Then each number that is
+-- marked is a state of the system.
 pub marked_below : (states : ℕ) (marked : List Bool) (s : ℕ) → length marked ≡ states → IsMarked marked s → s < states
 marked_below states marked s size m = search (rules, both_ways, get_or_past)
 

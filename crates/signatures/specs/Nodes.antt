@@ -78,9 +78,9 @@ StoresNode pairs lists k (Whole start count) = (start + count ≤ length pairs) 
 StoresNode pairs lists k (Halved h) = IsHalved lists k h
 
 -- `AreNodes` is about nodes, each of which stores one list, either as a range of the buffer `pairs` or as the IDs of
--- the two halves of the list. `AreNodes` holds if all three of the following conditions hold. First, each node is
--- correct (`StoresNode`). Second, the stored lists satisfy the conditions of `AreStored`, for example that each list is
--- in strictly ascending order. Third, the first node stores the empty list.
+-- the two halves of the list. `AreNodes` holds if all three of the following conditions hold. First, each node stores
+-- its list correctly (`StoresNode`). Second, the stored lists satisfy the conditions of `AreStored`, for example that
+-- each list is in strictly ascending order. Third, the first node stores the empty list.
 pub record AreNodes (pairs : List (ℕ × ℕ)) (nodes : List Node) : Type 0 where
   pub stored : AreStored (lists_of_nodes pairs nodes)
   pub empty : node_at nodes 0 ≡ Whole 0 0

@@ -90,7 +90,7 @@ pub(crate) fn turned(alloc: Global, text: &str) -> Result<String, Memory> {
     Ok(turned)
 }
 
-/// Appends to `text` the notation of the system, with its transitions in the order of their sources.
+/// Writes the system as text, with its transitions in the order of their sources, and appends this text to `text`.
 pub(crate) fn append_spelled(
     alloc: Global,
     l: &Lts<Counter>,

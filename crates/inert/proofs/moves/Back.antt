@@ -201,8 +201,8 @@ module _ (laws : Laws) {u : Under} (lts : IsLts u.l) {before signatures : List (
     finished = closed_seen.finished;
   }
 
-  -- A component is a strongly connected set of states on the stack. The number `back` is the index on the stack of the
-  -- state from which the search came to the completed component.
+  -- A component is a strongly connected set of states on the stack. The search came from some state to the completed
+  -- component. The number `back` is the index of this state on the stack.
   abbrev back : ℕ
   back = (frame_at w.frames (length w.frames - 2)).height
 

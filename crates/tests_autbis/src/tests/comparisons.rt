@@ -343,7 +343,7 @@ fn leaves_second(alloc: Global) -> bool {
 }
 
 /// Reads eight bytes from the source (the object from which the input is read). Returns true if the source had not
-/// failed before, and these eight bytes are a prefix of the text.
+/// failed before this read and the text begins with these eight bytes.
 fn starts_with(source: &mut SliceSource, text: &[u8]) -> bool {
     let mut piece = [0u8; 8];
     source.failures() == 0 && source.take(&mut piece).unwrap_or(0) == 8 && text.starts_with(&piece)

@@ -66,8 +66,8 @@ impl Opener for Shelf {
 }
 
 /// Runs the program with a command line. Returns its exit status, its output, and its message. The program opens files
-/// with the opener `files`, and reads the example `two-equal-targets` as its standard input. If `room` is a number,
-/// writing the output fails after this number of bytes.
+/// with `files`, which is an object that opens files by their names. The program reads the example `two-equal-targets`
+/// as its standard input. If `room` is a number, writing the output fails after this number of bytes.
 fn ended<F: Opener>(
     files: &mut F,
     alloc: Global,

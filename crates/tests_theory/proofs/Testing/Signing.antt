@@ -46,8 +46,8 @@ from_step_found A blocks u p h =
       eqb-true (blocks found.1) p.1 parts.1,
     )
 
--- `own` returns true if x is the internal label, and n is the ID of the block of the state s. A branching signature of
--- s never contains the pair of this label and this block ID.
+-- `own` returns true if x is the internal label and n is the ID of the block of the state s. A branching signature of s
+-- never contains the pair of this label and this block ID.
 abbrev pub own : (ℕ → ℕ) → ℕ → List ℕ → ℕ → Bool
 own blocks s x n = and_then (bytes_eq x internal) (λ _. eqb n (blocks s))
 
