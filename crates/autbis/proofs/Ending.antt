@@ -204,8 +204,8 @@ module _ (asked : Request) where
   fault_told (one revealed) (two text other) is wrong = absurd is
   fault_told (two revealed more) (one text) is wrong = absurd is
 
--- `AreAsRevealed` holds if the actual contents of each input are the contents that a contract states. This lemma says
--- that this is the case if the stated contents are taken as the actual contents.
+-- `AreAsRevealed` holds if each input has the contents that a contract states for it, if any. This lemma says that this
+-- is the case if the stated contents are taken as the actual contents.
 pub told_itself : (revealed : Option (List ℕ)) → IfSome revealed (λ bytes. revealed ≡ Some bytes)
 told_itself None = tt
 told_itself (Some bytes) = refl

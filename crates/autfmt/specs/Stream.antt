@@ -4,10 +4,10 @@
 use Rattle.std.specs.Prelude.{◌≡◌, ℕ, List, ◌++◌, Option, Result, MatchResult}
 use Rattle.std.specs.Io.KnownBytes.{Appends}
 
--- `CountsFailure result failures` is about a call that reads from a source or writes to a sink. The source or sink must
--- not have failed before the call, and `failures` is the number of times that it has failed until the end of the call.
--- `CountsFailure` holds if this number agrees with the result of the call: `failures` is 1 if the call returned an
--- error, and 0 if the call succeeded.
+-- `CountsFailure result failures` is about a call that reads from a source, writes to a sink, or flushes a sink. The
+-- source or sink must not have failed before the call, and `failures` is the number of times that it has failed until
+-- the end of the call. `CountsFailure` holds if this number agrees with the result of the call: `failures` is 1 if the
+-- call returned an error, and 0 if the call succeeded.
 abbrev pub CountsFailure : {T E : Type 0} → Result T E → ℕ → Type 0
 CountsFailure result failures = MatchResult result (λ _. failures ≡ 0) (λ _. failures ≡ 1)
 

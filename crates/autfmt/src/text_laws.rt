@@ -1,7 +1,8 @@
-//! This module contains theorems about reading a complete input (a system or a hide list), rather than a single line of
-//! it. There is exactly one way to divide an input into lines. Each input either can be read as exactly one system, or
-//! has exactly one first error. No input can be read as a system and has a first error. Each theorem is stated as the
-//! contract of a function with an empty body.
+//! This module contains theorems about reading a complete input or a complete hide list (the labels to hide), rather
+//! than a single line. There is exactly one way to divide an input into lines. Each input either can be read as exactly
+//! one system, or has exactly one first error. No input can be read as a system and has a first error. In the same way,
+//! each hide list either can be read as exactly one list of labels, or has exactly one first error. Each theorem is
+//! stated as the contract of a function with an empty body.
 ghost use Rattle.std.specs.Prelude.{◌≡◌, ◌≢◌, ◌⊎◌, ◌↔◌, ℕ, List, [], ◌++◌};
 ghost use Rattle.theory.specs.System.{System, Hide};
 ghost use Rattle.autfmt.specs.declared.fault.Fault.{Fault};

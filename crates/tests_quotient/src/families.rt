@@ -79,8 +79,8 @@ const TREE_3: &str =
     "7 of 8; 0 i 1; 1 i 2; 0 l0 3; 1 l1 3; 2 l2 3; 4 i 0; 4 i 2; 7 go 4; 5 i 1; 5 i 1; 7 go 5; \
     6 i 2; 6 i 0; 7 go 6";
 
-/// The systems in this list have cycles of inert steps. Some states outside of these cycles have the same signatures as
-/// the states on a cycle, but these signatures result from other transitions.
+/// The systems in this list have cycles of inert steps. In the first round, some states outside of these cycles have
+/// the same signatures as the states on a cycle, but these signatures result from other transitions.
 const CYCLES: [Family; 2] = [
     (
         "entry 4",
@@ -104,8 +104,8 @@ const CYCLES: [Family; 2] = [
     ),
 ];
 
-/// In the systems in this list, several states have inert steps to the same targets. So refinement has to compute the
-/// union of the signatures of these targets several times.
+/// In each system in this list, several states have two inert steps each, and several of these steps lead to the same
+/// target. So refinement has to compute several unions that include the signature of this target.
 const UNIONS: [Family; 4] = [
     (
         "hubs 3",
@@ -215,8 +215,8 @@ const NEARLY_EQUAL: [Family; 6] = [
     ),
 ];
 
-/// The systems in this list are chains of inert steps in which each state has a transition with a label that no other
-/// state has.
+/// Each system in this list contains a chain of inert steps, and each state of this chain has a transition with a label
+/// that no other state has.
 const CHAINS: [Family; 3] = [
     (
         "tail 4",

@@ -1,6 +1,6 @@
-//! The leader of a class of bisimilar states is the state that represents this class. In the quotient, each class
-//! becomes one state, and the class number of the class is the number of this quotient state. This file proves which
-//! leaders, class numbers and quotients the example systems have. The comments give the name of each example.
+//! The leader of a class of bisimilar reachable states is the state that represents this class. In the quotient, each
+//! class becomes one state, and the class number of the class is the number of this quotient state. This file proves
+//! which leaders, class numbers and quotients the example systems have. The comments give the name of each example.
 
 ghost use Rattle.std.specs.Prelude.{◌≡◌, ◌↔◌, List, [], ◌∷◌};
 ghost use Rattle.std.specs.List.{Contains};

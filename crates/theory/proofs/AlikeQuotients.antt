@@ -1,7 +1,7 @@
--- The leader of a class of bisimilar states is the state of the system that represents this class. In the quotient,
--- each class becomes one state, and the class number of the class is the number of this quotient state. If two systems
--- have the same steps (`SameSteps`), they have the same leaders, class numbers and quotients. If the transitions of a
--- quotient of A are reordered, the result is also a quotient of A.
+-- The leader of a class of bisimilar reachable states is the state of the system that represents this class. In the
+-- quotient, each class becomes one state, and the class number of the class is the number of this quotient state. If
+-- two systems have the same steps (`SameSteps`), they have the same leaders, class numbers and quotients. If the
+-- transitions of a quotient of A are reordered, the result is also a quotient of A.
 use Rattle.std.proofs.Common.{◌≡◌, ◌≢◌, ◌↔◌, ℕ, ◌<◌, sym, ◌∙◌, subst, inl, inr}
 use Rattle.std.specs.List.Sorted.{IsPermutation}
 use Rattle.std.proofs.lemmas.List.Sorted.{IsPermutation-sym, Contains-permutation}

@@ -1,6 +1,6 @@
--- Lemmas about class numbers. In the quotient, each class of bisimilar states becomes one state, and the class number
--- of a reachable state is the number of the quotient state that its class becomes. A leader is the state of the system
--- that represents its class.
+-- Lemmas about class numbers. In the quotient, each class of bisimilar reachable states becomes one state, and the
+-- class number of a reachable state is the number of the quotient state that its class becomes. A leader is the state
+-- of the system that represents its class.
 --
 -- Each reachable state has exactly one class number. Two reachable states have the same class number if and only if
 -- they are bisimilar. The class numbers (the quotient states) are exactly the numbers less than the number of leaders.
@@ -67,9 +67,9 @@ module _ (rel : Relation) (A : System) (sys : IsSystem A) where
   unfolding place
   place_less k l leads other low = tally_less (IsOther rel A) is_other_decided k l (leads, other) low
 
-  -- The leader of a class is the state of the system that represents this class. In the quotient, each class becomes
-  -- one state, and the class number of the class is the number of this quotient state. If the classes of two leaders
-  -- have the same class number, the two leaders are equal.
+  -- The leader of a class is the state of the system that represents this class. In the quotient, each class of
+  -- bisimilar reachable states becomes one state, and the class number of the class is the number of this quotient
+  -- state. If the classes of two leaders have the same class number, the two leaders are equal.
   placed_apart : (k l n : ℕ) → IsLeader rel A k → IsLeader rel A l → Placed k n → Placed l n → k ≡ l
   placed_apart k l n hk hl (inl p) (inl q) = p.0 ∙ sym q.0
   placed_apart k l n hk hl (inl p) (inr q) = absurd (omega (arith, p.1, q.1))
@@ -156,9 +156,9 @@ module _ (rel : Relation) (A : System) (sys : IsSystem A) where
     placed_below l n leads (inr p) =
         omega (arith, p.1, others_counted, place_less l A.states leads p.0 (is_leader_below rel A sys l leads))
 
-    -- In the quotient, each class becomes one state, and the class number of the class is the number of this quotient
-    -- state. The leader of a class is the state of the system that represents this class. Every class number is less
-    -- than the number of leaders.
+    -- In the quotient, each class of bisimilar reachable states becomes one state, and the class number of the class is
+    -- the number of this quotient state. The leader of a class is the state of the system that represents this class.
+    -- Every class number is less than the number of leaders.
     pub number_below : (s n : ℕ) → Number rel A s n → n < c
     number_below s n h =
         let p : (l : ℕ) × Leader rel A s l × Placed l n = number_placed s n h in

@@ -32,11 +32,11 @@ Leader rel A s l =
 abbrev pub IsLeader : Relation → System → ℕ → Type 0
 IsLeader rel A l = (s : ℕ) × Reachable A s × Leader rel A s l
 
--- In the quotient, each class of bisimilar states becomes one state, and the class number of a reachable state s is the
--- number of the quotient state that the class of s becomes. `Number` holds if n is the class number of s. The leader of
--- a state is the state of the system that represents its class. States are numbers. If the leader of s is the first
--- state, n is 0. Otherwise, n is 1 plus the number of leaders that are less than the leader of s and differ from the
--- first state.
+-- In the quotient, each class of bisimilar reachable states becomes one state, and the class number of a reachable
+-- state s is the number of the quotient state that the class of s becomes. `Number` holds if n is the class number of
+-- s. The leader of a state is the state of the system that represents its class. States are numbers. If the leader of s
+-- is the first state, n is 0. Otherwise, n is 1 plus the number of leaders that are less than the leader of s and
+-- differ from the first state.
 abbrev pub Number : Relation → System → ℕ → ℕ → Type 0
 Number rel A s n =
     (l : ℕ) × Leader rel A s l

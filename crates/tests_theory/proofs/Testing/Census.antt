@@ -1,8 +1,8 @@
--- A leader is a state that represents its class. In the quotient, each class becomes one state, and the class number of
--- the class is the number of this quotient state. This file proves which leaders, class numbers and quotients given
--- systems have. The classes and leaders of each system are described by a record, which is called the census of the
--- system (`Census`). The function `is_census` checks that the census is correct, and the facts about the system follow
--- from the census.
+-- A leader is a state that represents its class. In the quotient, each class of bisimilar reachable states becomes one
+-- state, and the class number of the class is the number of this quotient state. This file proves which leaders, class
+-- numbers and quotients given systems have. The classes and leaders of each system are described by a record, which is
+-- called the census of the system (`Census`). The function `is_census` checks that the census is correct, and the facts
+-- about the system follow from the census.
 use Rattle.std.proofs.Common.{◌≡◌, ℕ, Bool, true, not, eqb, List, [], ◌∷◌, length, map, slice_index, subst}
 use Rattle.std.proofs.lemmas.Bool.{eqb-true}
 use Rattle.theory.specs.System.{System, Reachable}

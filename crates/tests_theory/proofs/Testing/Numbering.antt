@@ -1,6 +1,6 @@
--- A leader is a state that represents its class. In the quotient, each class becomes one state, and the class number of
--- the class is the number of this quotient state. This file computes the class numbers of states from a list of all
--- leaders. The lemmas prove that these class numbers are correct.
+-- A leader is a state that represents its class. In the quotient, each class of bisimilar reachable states becomes one
+-- state, and the class number of the class is the number of this quotient state. This file computes the class numbers
+-- of states from a list of all leaders. The lemmas prove that these class numbers are correct.
 use Rattle.std.proofs.Common.{◌≡◌, ◌≢◌, ◌⊎◌, ◌↔◌, ℕ, ◌+◌, ◌<◌, Bool, true, not, cond, eqb, ltb, ltb-true, List, length}
 use Rattle.std.proofs.Common.{filter, Contains, refl, sym, ◌∙◌, ap, inl, inr}
 use Rattle.std.proofs.lemmas.Bool.{eq-eqb, lt-ltb, ne_eqb, cases_eq, not_from_false}
