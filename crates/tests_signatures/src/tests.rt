@@ -180,7 +180,8 @@ fn equal_lists_have_one_number(rt: HostRuntime) -> Result<(), Fail> {
 }
 
 /// Adds 200 pairs to a list, one after the other. The list becomes so long that it is stored as a tree of several
-/// levels. Fails if a pair is missing in at least one of the resulting lists.
+/// levels. Fails if at least one of the resulting lists does not consist of the pairs that were added, or if the list
+/// that is made from all 200 pairs at once has another ID.
 fn check_growth(alloc: Global, signatures: &mut Interner) -> Result<(), Fail> {
     let mut whole = Vec::new(alloc);
     let mut last = EMPTY;
@@ -202,8 +203,8 @@ fn a_list_grows_by_a_pair(rt: HostRuntime) -> Result<(), Fail> {
 }
 
 /// Makes lists, removes all of them from the table, so that only the empty list remains, and makes the same lists
-/// again. Fails if other lists remain, if a pair is missing in at least one of the new lists, or if the list of the
-/// single pair (0, 0) does not have the ID 1.
+/// again. Fails if other lists remain, if `check_growth` fails for the first lists or for the new lists, or if the list
+/// of the single pair (0, 0) does not have the ID 1.
 fn check_clear(alloc: Global, signatures: &mut Interner) -> Result<(), Fail> {
     check_growth(alloc, signatures)?;
     signatures.clear();

@@ -1,6 +1,7 @@
 //! Functions that run examples. Other files in this folder define the examples, and call these functions. These
-//! functions minimise inputs, and check that each minimisation ends with the expected error or output. Sources (objects
-//! from which an input is read) and sinks (objects to which the output is written) may fail.
+//! functions minimise inputs, and check that each minimisation ends with the expected error, if any, and with the
+//! expected output. Sources (objects from which an input is read) and sinks (objects to which the output is written)
+//! may fail.
 use autbis::{Counts, run_min};
 use autfmt::{Fault, Hidden, Limits, SliceSource, VecSink, read_hidden};
 use lts::{Counter, Meter};
