@@ -23,8 +23,9 @@ opens_then : (old mid new : Option (List Name)) (first more : List Name) → Ope
 opens_then old mid new first more a b =
     IfSome_then old a (λ known is. rw is at b ∙ ap Some (append_assoc known first more))
 
--- `IsRefused` holds for a list of files if one of these files could not be opened, and the files after it were not
--- opened. If `IsRefused` holds for the list `first`, then `IsRefused` holds for the longer list `first ++ more`.
+-- `IsRefused` holds for a list of files if a sequence of calls tried to open the first files of this list, one after
+-- the other, and one of them could not be opened. If `IsRefused` holds for the list `first`, then `IsRefused` holds for
+-- the longer list `first ++ more`.
 pub refused_then : {F : Type 0} {files : FilesUsed F} {first : List Name} (more : List Name) {status : ℕ} →
     IsRefused files first status → IsRefused files (first ++ more) status
 refused_then more is = record {
@@ -64,9 +65,9 @@ module _ {F : Type 0} {files : FilesUsed F} {first more : List Name} (mid : F)
   pub all_then : HasAll (record files { old = mid }) more → HasAll files (first ++ more)
   all_then others = search (rules, opens_then, all.opens, others.opens, others.sound, all.sound, others.same, all.same)
 
-  -- `IsRefused` holds for a list of files if one of these files could not be opened, and the files after it were not
-  -- opened. Suppose that all files in the list `first` were opened, and that a file in the list `more` could not be
-  -- opened after that. Then `IsRefused` holds for the list `first ++ more`.
+  -- `IsRefused` holds for a list of files if a sequence of calls tried to open the first files of this list, one after
+  -- the other, and one of them could not be opened. Suppose that all files in the list `first` were opened, and that a
+  -- file in the list `more` could not be opened after that. Then `IsRefused` holds for the list `first ++ more`.
   pub refused_after : {status : ℕ} → IsRefused (record files { old = mid }) more status →
       IsRefused files (first ++ more) status
   refused_after is = record {
