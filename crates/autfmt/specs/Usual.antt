@@ -1,4 +1,5 @@
--- This file defines lists of bytes that begin with a transition in one of its most common written forms.
+-- This file states when a list of bytes begins with a transition, or with a part of a transition: a number, a label, a
+-- comma, or the end of the line.
 use Rattle.std.specs.Prelude.{◌≡◌, ◌⊎◌, ℕ, ◌<◌, ◌≤◌, ◌^◌, List, ◌∷◌, ◌++◌, length, take, slice_index, codes, decimal}
 use Rattle.std.specs.Char.{is_ascii_digit}
 use Rattle.std.specs.List.{prefix_len}

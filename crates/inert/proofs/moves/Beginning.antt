@@ -117,7 +117,8 @@ module _ (laws : Laws) {u : Under} (lts : IsLts u.l) {signatures : List (List (�
 
   -- An item is a pair (label ID, block) or a signature ID. A signature ID represents all pairs of the signature with
   -- this ID. These lemmas assume that all transitions of the first state s were read. The lemmas also assume that s is
-  -- completed after these reads. The signature of s contains exactly the pairs that the collected items represent.
+  -- then completed with the ID of a signature, and that this signature contains exactly the pairs that the collected
+  -- items represent.
   module _ (over : end ≤ k) {lists' : List (List (ℕ × ℕ))} {id : ℕ}
       (listed : IsUnionOfItems w.items signatures lists' id)
       (low : s < length old.stages) where
