@@ -1,19 +1,11 @@
 -- Lemmas about the rounds of refinement and the visits (reads of transitions) that a meter counts. The lemmas prove
 -- that the functions of this crate stay within the bounds of their contracts.
-use Rattle.std.proofs.Common.{rules, ◌≡◌, ℕ, ◌+◌, ◌*◌, ◌≤◌, Result, Ok, Err, IfOk, length, ap, arith}
+use Rattle.std.proofs.Common.{rules, ◌≡◌, ℕ, ◌+◌, ◌*◌, ◌≤◌, Result, Ok, Err, length, ap, arith}
 use Rattle.std.proofs.lemmas.List.{length-append, length-map}
 use Rattle.theory.specs.Union.{union_of}
 use Rattle.lts.specs.Meter.{Counts, IsFresh, Costs, on_ok}
 use Rattle.lts.specs.Lts.{Grouped, system_of}
 use Rattle.quotient.specs.Visits.{StaysWithin, quotient_passes, union_passes}
-
--- Two clauses about the result of a call can be combined into one clause. Suppose that, by the first clause, a
--- successful call returns a value with the property P. Suppose that, by the second clause, a successful call returns a
--- value with the property Q. Then a successful call returns a value that has both properties.
-pub IfOk-both : {T E : Type 0} (result : Result T E) (P Q : T → Type 0) → IfOk result P → IfOk result Q →
-    IfOk result (λ x. P x × Q x)
-IfOk-both (Ok x) P Q p q = (p, q)
-IfOk-both (Err e) P Q p q = tt
 
 -- A visit is a read of a transition that the meter counts. Suppose that the meter has counted nothing before. Suppose
 -- that a minimisation makes r rounds of refinement, each of which makes as many visits as there are transitions, and

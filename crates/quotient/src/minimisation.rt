@@ -52,7 +52,6 @@ pub fn minimise<M: Meter>(
     theory::quotient_is_equivalent();
     theory::quotient_states_differ();
     theory::no_smaller_system();
-    theory::bisimilarity_is_an_equivalence();
     let blocks = relation::blocks(alloc, l, r, m)?;
     quotient_of(alloc, l, r, blocks, m)
 }

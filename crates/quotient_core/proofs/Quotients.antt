@@ -55,13 +55,9 @@ dropped_is Branching A labels x s t same = (λ h. (h.0, same.0 h.1), λ h. (h.0,
 
 -- `IsNumbered` collects the assumptions of the following lemmas. The field `numbering` says that the program has
 -- assigned the correct class number to each reachable state of the system g. The class number of a state is the number
--- of the quotient state that represents this state. The field `drops` says that the program leaves out a triple
--- (source, label ID, target) if and only if the quotient modulo `rel` drops the transition that the triple denotes
--- (`IsDropped`). All other fields are theorems of the crates `theory` and `lts`.
+-- of the quotient state that represents this state. All other fields are theorems of the crates `theory` and `lts`.
 pub record IsNumbered (rel : Relation) (g : Grouped) (n : Numbering) : Type 0 where
-  pub numbering : IsNumbering rel (system_of g) n
-  pub drops : (x : Triple) → label_of x < length g.labels →
-      (is_left_out n.dropped x ≡ true) ↔ IsDropped rel (transition_of g.labels x)
+  pub numbering : IsNumbering rel g n
   pub lts : IsLts g
   pub one_number : (s m n : ℕ) → Number rel (system_of g) s m → Number rel (system_of g) s n → m ≡ n
   pub classes : (s t m n : ℕ) → Reachable (system_of g) s → Reachable (system_of g) t →
@@ -90,6 +86,10 @@ module _ {rel : Relation} {g : Grouped} {n : Numbering} (is : IsNumbered rel g n
   way_on : (s : ℕ) (e : Triple) → Contains (row_of s g.places) e → Reachable A s → Reachable A (target_of e)
   way_on s e c way = leads_on (AnyStep A) g.first s (target_of e) way (_, (is.steps s _ _).1 (e, c, refl, refl))
 
+  -- The class number of a reachable state is less than the number of classes.
+  below : (s : ℕ) → Reachable A s → number_of n s < length n.classes.items
+  below s way = ((is.numbering.numbered.class s (number_of n s) ((is.numbering.reached s).1 way)).0 refl).0
+
   module _ (es : List Triple) (shown : HasShown g n (is_reached n) es) (once : AllPairs (λ x y. x ≢ y) es) where
     -- A quotient transition is a triple (source, label ID, target) between quotient states that comes from a transition
     -- of the system, and that the quotient does not leave out. Let the list `es` contain exactly the quotient
@@ -104,12 +104,11 @@ module _ {rel : Relation} {g : Grouped} {n : Numbering} (is : IsNumbered rel g n
         let way = (is.numbering.reached s).0 m in
         let (e, in_row, from, stays) = place_of g n s x d in
         let on = way_on s e in_row way in
-        let below = λ (t : ℕ) (w : Reachable A t). is.numbering.numbered.below t ((is.numbering.reached t).1 w) in
         let number = is.numbering.number in
         rw (← from) (
           record { source = below s way; label = (in_range s e in_row).label; target = below (target_of e) on },
           (s, target_of e, way, (is.steps s _ _).1 (e, in_row, refl, refl), number s way, number (target_of e) on),
-          λ gone. both_ways _ stays ((is.drops (between_numbers n s e) (in_range s e in_row).label).1 gone),
+          λ gone. both_ways _ stays ((is.numbering.drops (between_numbers n s e)).1 gone),
         )
 
     -- A quotient transition is a triple (source, label ID, target) between quotient states that comes from a transition
@@ -117,8 +116,8 @@ module _ {rel : Relation} {g : Grouped} {n : Numbering} (is : IsNumbered rel g n
     -- transitions of all reachable states. Suppose that the length of `es` is at most the number of transitions of the
     -- given system. Then `es` satisfies the limits on the size of a system (`InRange`).
     pub quotient_in_range : length es ≤ length g.places → InRange (length g.labels) 0 (length n.classes.items) es
-    quotient_in_range few = let some = is.numbering.numbered.below g.first
-        ((is.numbering.reached g.first).1 ([], refl)) in record {
+    quotient_in_range few = let some = below g.first ([], refl) in
+        record {
           first_below = omega (arith, some);
           few_states = omega (arith, is.numbering.few, is.lts.in_range.few_states);
           few_transitions = omega (arith, few, is.lts.in_range.few_transitions);
@@ -149,7 +148,7 @@ module _ {rel : Relation} {g : Grouped} {n : Numbering} (is : IsNumbered rel g n
                 let same : transition_of g.labels (between_numbers n s f) ≡ e =
                 λ i. record { source = source i; label = label i; target = target i } in
                 let place = shown_place g n s f in_row (false_from_ne_true _ (λ gone. stays (subst (IsDropped rel) same
-                ((is.drops (between_numbers n s f) (in_range s f in_row).label).0 gone)))) in
+                ((is.numbering.drops (between_numbers n s f)).0 gone)))) in
                 subst (Contains (map (transition_of g.labels) es)) same (contains_mapped (transition_of g.labels) es _
                 ((shown.exactly (between_numbers n s f)).1 (s, (is.numbering.reached s).1 way, place))),
           );
@@ -172,7 +171,7 @@ module _ {rel : Relation} {g : Grouped} {n : Numbering} (is : IsNumbered rel g n
       (text_of g.labels (label_of e)) (target_of e)
   inert_is s e way c = let inert = dropped_is rel A g.labels (between_numbers n s e) s (target_of e)
       (same_is s (target_of e) way (way_on s e c way)) in
-      let out = is.drops (between_numbers n s e) (in_range s e c).label in
+      let out = is.numbering.drops (between_numbers n s e) in
       (λ gone. inert.0 (out.0 gone), λ nothing. out.1 (inert.1 nothing))
 
   -- The quotient transitions of a state are the triples between quotient states that come from the transitions of this

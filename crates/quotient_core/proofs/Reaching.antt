@@ -40,8 +40,8 @@ ReadsOnce-first g at below reached = record {
   search =
       let none : (s : ℕ) → get_or (replicate g.states false) s false ≡ false = λ s. grind (arith, common_steps) in
       search (rules, length-replicate, both_ways, none, get_or-set_other, contains_none);
-  few = omega (arith, rows_few (is_ahead 0 (set (replicate g.states false) g.first true)) g.places);
-  visits = search rules;
+  visits =
+      (0, search rules, omega (arith, rows_few (is_ahead 0 (set (replicate g.states false) g.first true)) g.places));
 }
 
 -- The search scans the states in ascending order. The following lemmas are about the step in which the search marks a
@@ -106,10 +106,9 @@ module _ {g : Grouped} {marked : List Bool} {next : ℕ} {waiting : List ℕ} {o
   pub ReadsOnce-row : {row past : ℕ} {more : List Bool} {left : List ℕ} {new : Counts} → Costs mid new 0 0 row →
       places_ahead g.places next marked waiting ≡ places_ahead g.places past more left + row →
       Searches g more past left → ReadsOnce g more past left old new
-  ReadsOnce-row costs e search = record {
+  ReadsOnce-row {row} costs e search = record {
     search = search;
-    few = omega (arith, reads.few, e);
-    visits = visits_then reads.visits costs (omega (arith, reads.few, e));
+    visits = (reads.visits.0 + row, visits_then reads.visits.1 costs (omega arith), omega (arith, reads.visits.2, e));
   }
 
   -- The search scans the states in ascending order. The following lemmas are about the step in which the scan passes a

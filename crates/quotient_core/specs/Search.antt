@@ -2,7 +2,7 @@
 -- reaches a marked state, the search reads the transitions of this state and marks their targets. If the scan has
 -- already passed a state when this state is marked, the state is put into a queue, and its transitions are read later.
 -- In the definitions below, the scan has already passed all states that are less than `next`.
-use Rattle.std.specs.Prelude.{◌≡◌, ◌⊎◌, ℕ, ◌+◌, ◌-◌, ◌<◌, ◌≤◌, Bool, true, false, not, cond, ◌&&◌, nat_lt, List, []}
+use Rattle.std.specs.Prelude.{◌≡◌, ◌⊎◌, ℕ, ◌+◌, ◌<◌, ◌≤◌, Bool, true, false, not, cond, ◌&&◌, nat_lt, List, []}
 use Rattle.std.specs.Prelude.{◌∷◌, ◌++◌, length, slice_set}
 use Rattle.std.specs.List.{Contains, slice_index_or, filter, sum_by}
 use Rattle.theory.specs.System.{Step, Reachable}
@@ -41,20 +41,17 @@ pub record Searches (g : Grouped) (marked : List Bool) (next : ℕ) (waiting : L
   pub followed : (s t : ℕ) (a : List ℕ) → s < next → IsMarked marked s → Step (system_of g) s a t →
       Contains waiting s ⊎ IsMarked marked t
 
--- `places_ahead` is the number of transitions that the search may still read. The search scans the states in ascending
--- order, and has passed the states that are less than `next`. The search may still read the transitions of each state
--- that the scan has not yet passed or that is not marked (`is_ahead`). The search may also still read the transitions
--- of the states in the queue `waiting`.
+-- `places_ahead` is the number of transitions that the search may still read. These are the transitions of each state
+-- that the scan has not yet passed or that is not marked (`is_ahead`), and the transitions of the states in the queue
+-- `waiting`. The scan goes through the states in ascending order, and has passed the states that are less than `next`.
 abbrev pub places_ahead : List Triple → ℕ → List Bool → List ℕ → ℕ
 places_ahead places next marked waiting =
     length (filter (λ e. is_ahead next marked (source_of e)) places) + sum_by (λ s. length (row_of s places)) waiting
 
--- `ReadsOnce` holds if all four of the following conditions hold. First, the invariant of the search for the reachable
--- states holds (`Searches`). Second, the number of transitions that the search may still read (`places_ahead`) is at
--- most the number of all transitions. Third, the meter has counted no round since the search began. Fourth, let v be
--- the number of visits (reads of transitions that the meter counts) that the search has made. Then v is at most the
--- number of all transitions minus the number of transitions that the search may still read.
+-- `ReadsOnce` holds if both of the following conditions hold. First, the invariant of the search for the reachable
+-- states holds (`Searches`). Second, since the search began, the meter has counted no round, and at most v visits
+-- (reads of transitions), where v plus the number of transitions that the search may still read (`places_ahead`) is at
+-- most the number of all transitions.
 pub record ReadsOnce (g : Grouped) (marked : List Bool) (next : ℕ) (waiting : List ℕ) (old new : Counts) : Type 0 where
   pub search : Searches g marked next waiting
-  pub few : places_ahead g.places next marked waiting ≤ length g.places
-  pub visits : Costs old new 0 0 (length g.places - places_ahead g.places next marked waiting)
+  pub visits : (v : ℕ) × Costs old new 0 0 v × (v + places_ahead g.places next marked waiting ≤ length g.places)

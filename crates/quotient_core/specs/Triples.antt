@@ -1,21 +1,17 @@
 -- Private. Defines the transitions of the quotient as triples (source, label ID, target), which are called quotient
--- transitions below. The source and the target of a quotient transition are class numbers. The class number of a
--- reachable state is the number of the quotient state that represents this state. The row of a state is the list of its
--- transitions.
+-- transitions below. The source and the target of a quotient transition are numbers of quotient states.
 use Rattle.std.specs.Prelude.{◌≡◌, ◌↔◌, ℕ, ◌≤◌, ◌==◌, ◌&&◌, Bool, false, not, IsTrue, Option, None, Some, List, length}
 use Rattle.std.specs.Prelude.{map, slice_index}
 use Rattle.std.specs.List.{Contains, filter, slice_index_or}
 use Rattle.lts.specs.Lts.{Triple, Grouped, source_of, label_of, target_of, row_of}
 use Rattle.quotient_core.specs.declared.numbering.Numbering.{Numbering}
 
--- `number_of` returns the class number of the state s. If s is reachable, its class number is the number of the
--- quotient state that represents s.
+-- If the state s is reachable, `number_of` returns the number of the quotient state that represents s.
 abbrev pub number_of : Numbering → ℕ → ℕ
 number_of n s = slice_index n.numbers.items s
 
--- `between_numbers` returns the triple that comes from the transition e of the state s. The triple consists of the
--- class number of s, the label ID of e, and the class number of the target of e. The class number of a state is the
--- number of the quotient state that represents this state.
+-- `between_numbers` returns the triple that comes from the transition e of the state s. In this triple, s and the
+-- target of e are replaced by the numbers of the quotient states that represent them.
 abbrev pub between_numbers : Numbering → ℕ → Triple → Triple
 between_numbers n s e = (number_of n s, label_of e, number_of n (target_of e))
 
@@ -27,8 +23,7 @@ is_left_out None x = false
 is_left_out (Some k) x = (label_of x == k) && (source_of x == target_of x)
 
 -- `shown_by` returns the list of the quotient transitions (transitions between quotient states) that come from the
--- transitions of the state s. Each transition of s gives one triple, in which the source and the target are replaced by
--- the quotient states that represent them. Triples for which `is_left_out` is true are removed.
+-- transitions of the state s. The list contains no triples that the quotient leaves out (`is_left_out`).
 abbrev pub shown_by : Grouped → Numbering → ℕ → List Triple
 shown_by g n s = filter (λ x. not (is_left_out n.dropped x)) (map (between_numbers n s) (row_of s g.places))
 

@@ -1,16 +1,17 @@
 //! Assigns a class number to each reachable state. The class number of a state is the number of the quotient state that
 //! represents this state. The class of the first state of the system has the class number 0. The other classes have the
 //! numbers 1, 2 and so on, in the order of their least reachable members.
-ghost use Rattle.std.specs.Prelude.{◌≡◌, ◌↔◌, ℕ, ◌<◌, length, IfOk, OnOk};
+ghost use Rattle.std.specs.Prelude.{◌≡◌, ◌↔◌, ℕ, ◌<◌, true, length, IfOk, OnOk};
 ghost use Rattle.theory.specs.System.{Reachable};
-ghost use Rattle.theory.specs.declared.relation.Relation.{Relation};
-ghost use Rattle.lts.specs.Lts.{system_of};
+ghost use Rattle.theory.specs.Quotient.{IsDropped};
+ghost use Rattle.lts.specs.Lts.{Triple, transition_of, system_of};
 ghost use Rattle.quotient_core.specs.Numbers.{IsMarked, AreClasses, IsNumbering, TakesState};
 ghost use Rattle.quotient_core.specs.Triples.{is_left_out, is_reached, number_of};
 
-use lts::{Lts, Memory, Meter};
+use lts::{Labels, Lts, Memory, Meter};
 use partition::Blocks;
 use std::alloc::Global;
+use theory::Relation;
 
 /// In the table `by_block`, this value is the entry of each block that has no class number yet. The class number of a
 /// block is the number of the quotient state that represents the reachable states of this block.
@@ -81,23 +82,20 @@ struct Numbers {
 }
 
 /// Assigns a class number to each reachable state. The class number of a state is the number of the quotient state that
-/// represents this state. The class numbers are correct if the blocks are the classes of bisimilar states, for strong
-/// or for branching bisimilarity. For each reachable state, the entry in `reached` must be true, and all other entries
-/// must be false. The argument `dropped` is the ID of the label that the quotient drops, or `None` if it drops no
-/// label.
+/// represents this state. The blocks must be the classes of states that are bisimilar for the relation `r`. For each
+/// reachable state, the entry in `reached` must be true, and all other entries must be false.
 pub(crate) fn number<M: Meter>(
     alloc: Global,
     l: &Lts<M>,
-    dropped: Option<u32>,
+    r: Relation,
     blocks: Blocks,
     reached: Vec<bool>,
 ) -> Result<Numbering, Memory>
     requires blocks_long { length blocks.block_ids ≡ l.now.states }
+    requires classes { AreClasses r l.now blocks.block_ids }
     requires reached_long { length reached.items ≡ l.now.states }
     requires reached { (s : ℕ) → IsMarked reached.items s ↔ Reachable (system_of l.now) s }
-    ensures classes { (rel : Relation) → AreClasses rel l.now blocks.block_ids →
-        IfOk result (IsNumbering rel (system_of l.now)) }
-    ensures dropped { IfOk result (λ n. n.dropped ≡ dropped) }
+    ensures { IfOk result (IsNumbering r l.now) }
 {
     theory::each_state_has_a_number();
     theory::numbers_are_classes();
@@ -117,8 +115,23 @@ pub(crate) fn number<M: Meter>(
         reached,
         numbers: taken.numbers,
         classes: taken.classes,
-        dropped,
+        dropped: dropped(r, l.labels()),
     })
+}
+
+/// Returns the ID of the label that the quotient modulo `r` drops, or `None` if the quotient drops no label. The
+/// quotient leaves out all transitions that have the dropped label and lead from a class to itself. For branching
+/// bisimilarity, the dropped label is the internal label, if the label table of the system contains this label. For
+/// strong bisimilarity, the quotient drops no label.
+fn dropped(r: Relation, labels: &Labels) -> Option<u32>
+    ensures { (x : Triple) → (is_left_out result x ≡ true)
+        ↔ IsDropped r (transition_of labels.now x) }
+{
+    labels.invariants();
+    match r {
+        Relation::Strong => None,
+        Relation::Branching => labels.internal(),
+    }
 }
 
 impl Numbers {

@@ -1,15 +1,14 @@
 //! Builds the quotient of a system from the blocks of bisimilar states.
-ghost use Rattle.std.specs.Prelude.{◌≡◌, ◌↔◌, ◌*◌, ◌<◌, ◌≤◌, true, length, IfOk};
-ghost use Rattle.theory.specs.Quotient.{IsDropped, Quotient};
+ghost use Rattle.std.specs.Prelude.{◌≡◌, ◌*◌, ◌≤◌, length, IfOk};
+ghost use Rattle.theory.specs.Quotient.{Quotient};
 ghost use Rattle.lts.specs.Meter.{HasRoomFor, Costs};
-ghost use Rattle.lts.specs.Lts.{Triple, label_of, transition_of, system_of};
+ghost use Rattle.lts.specs.Lts.{system_of};
 ghost use Rattle.quotient_core.specs.Numbers.{AreClasses};
-ghost use Rattle.quotient_core.specs.Triples.{is_left_out};
 
 use crate::numbering::number;
 use crate::search::reachable;
 use crate::triples::shown_transitions;
-use lts::{Counter, Labels, Lts, Memory, Meter};
+use lts::{Counter, Lts, Memory, Meter};
 use partition::Blocks;
 use std::alloc::Global;
 use theory::Relation;
@@ -29,7 +28,8 @@ pub fn quotient_of<M: Meter>(
     requires classes { AreClasses r l.now blocks.block_ids }
     requires room { HasRoomFor (M.counted m.old) 0 (2 * length l.now.places) }
     ensures quotient { IfOk result (λ q. Quotient r (system_of l.now) (system_of q)) }
-    ensures fewer_transitions { IfOk result (λ q. length q.places ≤ length l.now.places) }
+    ensures no_larger { IfOk result
+        (λ q. (q.states ≤ l.now.states) × (length q.places ≤ length l.now.places)) }
     ensures visits { Costs (M.counted m.old) (M.counted m.new) 0 0 (2 * length l.now.places) }
 {
     l.invariants();
@@ -38,22 +38,7 @@ pub fn quotient_of<M: Meter>(
     theory::numbers_are_classes();
     theory::states_without_inert_steps_show_all();
     let reached = reachable(alloc, l, m)?;
-    let numbering = number(alloc, l, dropped(r, l.labels()), blocks, reached)?;
+    let numbering = number(alloc, l, r, blocks, reached)?;
     let shown = shown_transitions(alloc, l, &numbering, m)?;
     Lts::with_labels_of(l, 0, numbering.classes.len() as u32, shown)
-}
-
-/// Returns the ID of the label that the quotient modulo `r` drops, or `None` if the quotient drops no label. The
-/// quotient leaves out all transitions that have the dropped label and lead from a class to itself. For branching
-/// bisimilarity, the dropped label is the internal label, if the label table of the system contains this label. For
-/// strong bisimilarity, the quotient drops no label.
-fn dropped(r: Relation, labels: &Labels) -> Option<u32>
-    ensures { (x : Triple) → label_of x < length labels.now →
-        (is_left_out result x ≡ true) ↔ IsDropped r (transition_of labels.now x) }
-{
-    labels.invariants();
-    match r {
-        Relation::Strong => None,
-        Relation::Branching => labels.internal(),
-    }
 }

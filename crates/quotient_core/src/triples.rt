@@ -115,7 +115,7 @@ fn read_row<M: Meter>(
     class: &mut Vec<(u32, u32, u32)>,
     m: &mut M,
 ) -> Result<bool, Memory>
-    requires numbered { AreNumbered l.now.states numbering.now }
+    requires numbers_long { length numbering.now.numbers.items ≡ l.now.states }
     requires state { s < l.now.states }
     requires room { HasRoomFor (M.counted m.old) 0 (length (row_of s l.now.places)) }
     ensures class { OnOk result

@@ -1,7 +1,7 @@
 use Rattle.std.proofs.Common.{rules}
 use Rattle.std.proofs.lemmas.Result.{IfOk-weaker}
 use Rattle.lts.specs.Lts.{system_of}
-use Rattle.quotient.proofs.Visits.{IfOk-both, minimised_keeps}
+use Rattle.quotient.proofs.Visits.{minimised_keeps}
 use Rattle.quotient.proofs.minimisation.minimise.Goals as goal
 
 pub returns-clause-equivalent : goal.returns-clause-equivalent
@@ -15,14 +15,6 @@ returns-clause-smallest g c =
     IfOk-weaker c.quotient_of.result _ _
     (λ q h B sys same. c.no_smaller_system.ensures c.args.r (system_of c.args.l.now) (system_of q) B
     c.invariants.ensures.system sys h same) c.quotient_of.ensures.quotient
-
-pub returns-clause-no_larger : goal.returns-clause-no_larger
-returns-clause-no_larger g c = let A = system_of c.args.l.now in
-    let sys = c.invariants.ensures.system in
-    let same = c.bisimilarity_is_an_equivalence.ensures.reflexive c.args.r A A.first sys sys.first in
-    IfOk-weaker c.quotient_of.result _ _
-    (λ q h. (c.no_smaller_system.ensures c.args.r A (system_of q) A sys sys h.0 same, h.1))
-    (IfOk-both c.quotient_of.result _ _ c.quotient_of.ensures.quotient c.quotient_of.ensures.fewer_transitions)
 
 pub returns-clause-keeps : goal.returns-clause-keeps
 returns-clause-keeps g c = let (r, low, turns, costs) = c.in_ok-blocks.ensures.turns in

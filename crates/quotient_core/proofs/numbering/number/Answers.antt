@@ -2,9 +2,7 @@ use Rattle.std.proofs.Common.{rules, ◌≡◌, ◌∙◌, ℕ, ◌<◌, ◌↔�
 use Rattle.std.proofs.Common.{sym, subst, ap, refl, arith}
 use Rattle.std.proofs.lemmas.List.{get_or_read, length-set, length-replicate}
 use Rattle.theory.specs.System.{Reachable}
-use Rattle.theory.specs.declared.relation.Relation.{Relation}
 use Rattle.lts.specs.Lts.{system_of}
-use Rattle.quotient_core.specs.Numbers.{AreClasses}
 use Rattle.quotient_core.specs.declared.numbering.TheConstants.{NONE}
 use Rattle.quotient_core.proofs.Reaching.{marked_below}
 use Rattle.quotient_core.proofs.Classes.{Laws, Taken-start, Taken-adds, TakesState-room, class_at}
@@ -19,15 +17,14 @@ bounds-block_ids-first g c = let l = c.args.l.now in
     rw (c.block_ids.ensures.block_ids, c.first.ensures, c.requires.blocks_long) low
 
 module _ (g : Over) (c : In_ok-vec-2 g) where
-  -- If the blocks are the classes of bisimilar states, then the system and its blocks satisfy the assumptions of the
-  -- proofs about the loop of `number` (`Laws`).
-  laws : (rel : Relation) → AreClasses rel c.args.l.now c.args.blocks.block_ids →
-      Laws rel (system_of c.args.l.now) (slice_index c.args.blocks.block_ids)
-  laws rel classes = let A = system_of c.args.l.now in
+  -- The system and its blocks satisfy the assumptions of the proofs about the loop of `number` (`Laws`).
+  laws : Laws c.args.r (system_of c.args.l.now) (slice_index c.args.blocks.block_ids)
+  laws = let rel = c.args.r in
+      let A = system_of c.args.l.now in
       let sys = c.states.ensures.lts.system in
       let counted = c.leaders_are_counted.ensures in
       record {
-        same = classes;
+        same = c.requires.classes;
         system = sys;
         below = λ s way. marked_below A.states c.args.reached.items s c.requires.reached_long
             ((c.requires.reached s).1 way);
@@ -58,8 +55,7 @@ loop-s-init g c = let at = (goal.at.loop-s-init g c).In_ok-vec-2 in
       few = omega (arith, ap length one);
       below = λ i l. let e : i ≡ 0 = omega (arith, l, ap length one) in
           rw (one, e, of_first g at) (below g at c.args.l.now.first c.states.ensures.lts.in_range.first_below);
-      taken = λ rel classes. Taken-start rel (system_of c.args.l.now) (slice_index c.args.blocks.block_ids)
-          (laws g at rel classes) c.count.result _ (λ t l. omega (arith, below g at t l, c.count.ensures))
+      taken = Taken-start _ _ _ (laws g at) c.count.result _ (λ t l. omega (arith, below g at t l, c.count.ensures))
           (set_first g at) c.in_ok-with_capacity.ensures.items (one ∙ ap (λ b. b ∷ []) (of_first g at));
     }
 
@@ -77,17 +73,15 @@ loop-s-preserved g c =
       room = (TakesState-room takes).0 ∙ up.room;
       few = omega (arith, (TakesState-room takes).2, up.few);
       below = λ i l. grind (arith, class_at takes i l, up.below i, below g at s low);
-      taken = λ rel classes. Taken-adds rel (system_of c.args.l.now) _
-          (laws g at rel classes) s c.loop-s.taken _ _ is_reached low
+      taken = Taken-adds _ _ _ (laws g at) s c.loop-s.taken _ _ is_reached low
           (omega (arith, low, c.states.ensures.lts.in_range.few_states)) up.few
-          (omega (arith, below g at s low, up.room)) (up.taken rel classes) takes;
+          (omega (arith, below g at s low, up.room)) up.taken takes;
     }
 
-pub returns-clause-classes : goal.returns-clause-classes
-returns-clause-classes g c = λ rel classes. let A = system_of c.args.l.now in
-    let laws = laws g (goal.at.returns-clause-classes g c).In_ok-vec-2 rel classes in
+pub returns : goal.returns
+returns g c = let A = system_of c.args.l.now in let laws = laws g (goal.at.returns g c).In_ok-vec-2 in
     let end : c.loop-s.s ≡ A.states = omega (arith, c.states-s-end.ensures.value) in
-    let h = rw end at (c.loop-s.invariant.taken rel classes) in
+    let h = rw end at c.loop-s.invariant.taken in
     let seen = λ (s : ℕ) (way : Reachable A s). h.seen s (laws.below s way) way in
     let numbered = λ (s : ℕ) (way : Reachable A s). h.numbered s (laws.below s way) (seen s way).1 in
     record {
@@ -96,11 +90,12 @@ returns-clause-classes g c = λ rel classes. let A = system_of c.args.l.now in
         reached_long = c.requires.reached_long;
         numbers_long = h.numbers_long;
         classes_below = c.loop-s.invariant.below;
-        below = λ s m. let way = (c.requires.reached s).0 m in rw (seen s way).0 (numbered s way).0;
-        class = λ s i m. let way = (c.requires.reached s).0 m in rw (seen s way).0 (h.classes s i (laws.below s way));
+        class = λ s i m. let way = (c.requires.reached s).0 m in
+            rw (seen s way).0 (grind (arith, (numbered s way).0, h.classes s i (laws.below s way)));
       };
       reached = c.requires.reached;
       number = λ s way. rw (seen s way).0 ((numbered s way).1 s way refl);
       counted = rw h.counted.2 (laws.all h.counted.0 h.counted.1);
       few = h.fewer laws.system.first;
+      drops = rw (← c.labels.ensures) c.dropped.ensures;
     }

@@ -1,7 +1,5 @@
 use Rattle.std.proofs.Common.{◌≡◌, ℕ, ◌+◌, ◌<◌, ◌≤◌, length, slice_index}
-use Rattle.theory.specs.declared.relation.Relation.{Relation}
 use Rattle.lts.specs.Lts.{system_of}
-use Rattle.quotient_core.specs.Numbers.{AreClasses}
 use Rattle.quotient_core.proofs.Classes.{Taken}
 use Rattle.quotient_core.proofs.numbering.number.Given as goal
 
@@ -10,6 +8,5 @@ invariant-loop-s g l = record {
   room : length l.taken.by_block.items ≡ l.fn.blocks.count;
   few : length l.taken.classes.items ≤ l.s + 1;
   below : (i : ℕ) → i < length l.taken.classes.items → slice_index l.taken.classes.items i < l.fn.blocks.count;
-  taken : (rel : Relation) → AreClasses rel l.l l.fn.blocks.block_ids →
-      Taken rel (system_of l.l) (slice_index l.fn.blocks.block_ids) l.s l.taken;
+  taken : Taken l.r (system_of l.l) (slice_index l.fn.blocks.block_ids) l.s l.taken;
 }

@@ -15,8 +15,7 @@ is g c = let r = c.args.r in
     let l = c.args.l.now in
     let sys = c.invariants.ensures.system in
     record {
-      numbering = c.in_ok-numbering.ensures.classes r c.requires.classes;
-      drops = rw (c.in_ok-numbering.ensures.dropped, ← c.labels.ensures) c.dropped.ensures;
+      numbering = c.in_ok-numbering.ensures;
       lts = c.invariants.ensures;
       one_number = λ s m n. c.each_state_has_a_number.ensures.one_number r (system_of l) s m n sys;
       classes = λ s t m n. c.numbers_are_classes.ensures r (system_of l) s t m n sys;
@@ -24,10 +23,6 @@ is g c = let r = c.args.r in
       sources = c.rows_are_steps.ensures.sources;
       steps = c.rows_are_steps.ensures.steps l;
     }
-
-pub shown_transitions-requires-clause-numbered : goal.shown_transitions-requires-clause-numbered
-shown_transitions-requires-clause-numbered g c =
-    (c.in_ok-numbering.ensures.classes c.args.r c.requires.classes).numbered
 
 pub shown_transitions-requires-clause-whole : goal.shown_transitions-requires-clause-whole
 shown_transitions-requires-clause-whole g c =
@@ -39,9 +34,6 @@ less g c = let reached = λ (s : ℕ). get_or c.in_ok-numbering.numbering.reache
 
 counted : (g : Over) (c : After-len g) → c.len.result ≡ length c.in_ok-numbering.numbering.classes.items
 counted g c = search (rules, c.in_ok-numbering.numbering.classes.ok)
-
-pub overflow_cast-len : goal.overflow_cast-len
-overflow_cast-len g c = let few = (c.in_ok-numbering.ensures.classes c.args.r c.requires.classes).few in search rules
 
 pub with_labels_of-requires : goal.with_labels_of-requires
 with_labels_of-requires g c = let goals = goal.at.with_labels_of-requires g c in
@@ -55,9 +47,12 @@ returns-clause-quotient g c = let goals = goal.at.returns-clause-quotient g c in
     IfOk-weaker c.with_labels_of.result _ _ (built (is g goals.In_ok-numbering) _ shown.shown shown.once)
     (rw (counted g goals.After-len) at c.with_labels_of.ensures)
 
-pub returns-clause-fewer_transitions : goal.returns-clause-fewer_transitions
-returns-clause-fewer_transitions g c =
-    let less = less g (goal.at.returns-clause-fewer_transitions g c).In_ok-shown in
-    IfOk-weaker c.with_labels_of.result _ (λ q. length q.places ≤ length c.args.l.now.places)
-    (λ q made. omega (arith, length_permutation c.in_ok-shown.shown q.places made.grouping.same, less))
-    c.with_labels_of.ensures
+pub returns-clause-no_larger : goal.returns-clause-no_larger
+returns-clause-no_larger g c =
+    let at = goal.at.returns-clause-no_larger g c in
+    IfOk-weaker c.with_labels_of.result _
+    (λ q. (q.states ≤ c.args.l.now.states) × (length q.places ≤ length c.args.l.now.places))
+    (λ q made. (
+      omega (arith, made.states, counted g at.After-len, c.in_ok-numbering.ensures.few),
+      omega (arith, length_permutation c.in_ok-shown.shown q.places made.grouping.same, less g at.In_ok-shown),
+    )) c.with_labels_of.ensures

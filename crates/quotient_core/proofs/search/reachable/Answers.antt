@@ -22,8 +22,8 @@ ahead g c = let row = λ (s : ℕ). length (row_of s c.args.l.now.places) in
 pub mark_targets-requires : goal.mark_targets-requires
 mark_targets-requires g c = record {
   search = rw (c.states.ensures.value, sym c.in-Some.ensures.items) c.loop-s.invariant.search;
-  room = room_after c.requires.room c.loop-s.invariant.visits
-      (omega (arith, ahead g (goal.at.mark_targets-requires g c).In-Some, c.loop-s.invariant.few));
+  room = room_after c.requires.room c.loop-s.invariant.visits.1
+      (omega (arith, ahead g (goal.at.mark_targets-requires g c).In-Some, c.loop-s.invariant.visits.2));
 }
 
 pub loop-s-preserved : goal.loop-s-preserved
@@ -38,8 +38,8 @@ loop-s-smaller g c = let done = rw c.states.ensures.value at c.in_ok-mark_target
 
 pub returns-in_err-mark_targets-clause-visits : goal.returns-in_err-mark_targets-clause-visits
 returns-in_err-mark_targets-clause-visits g c = let at = goal.at.returns-in_err-mark_targets-clause-visits g c in
-    visits_then c.loop-s.invariant.visits c.mark_targets.ensures.visits
-    (omega (arith, ahead g at.In-Some, c.loop-s.invariant.few))
+    visits_then c.loop-s.invariant.visits.1 c.mark_targets.ensures.visits
+    (omega (arith, ahead g at.In-Some, c.loop-s.invariant.visits.2))
 
 pub returns-clause-exactly : goal.returns-clause-exactly
 returns-clause-exactly g c s = let l = c.args.l.now in

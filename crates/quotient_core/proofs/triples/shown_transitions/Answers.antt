@@ -1,6 +1,6 @@
 use Rattle.std.proofs.lemmas.Bool.Decides.{nat_tests}
 use Rattle.std.proofs.Common.{subst, ℕ, rules, ◌≡◌, ◌∙◌, ◌≤◌, ◌++◌, length, ap, arith}
-use Rattle.quotient_core.specs.Triples.{HasShown, is_member, is_reached}
+use Rattle.quotient_core.specs.Triples.{HasShown, number_of, is_member, is_reached}
 use Rattle.quotient_core.proofs.Showing.{is_below, below_next, shown_with, shown_tidy, tidied_once, once_next, rows_fit}
 use Rattle.quotient_core.proofs.Visits.{visits_then, rows_part}
 use Rattle.quotient_core.proofs.triples.shown_transitions.Given.{Over}
@@ -41,5 +41,5 @@ returns-clause-shown g c = let n = c.args.numbering.now in
     let end : c.loop-number.number ≡ length n.classes.items =
     omega (arith, c.loop-number-test.false, c.loop-number.auto.number-end) in
     let all : (s : ℕ) → is_below n c.loop-number.number s ≡ is_reached n s =
-    λ s. grind (arith, nat_tests, end, c.requires.numbered.below s) in
+    λ s. grind (arith, nat_tests, end, c.requires.numbered.class s (number_of n s)) in
     subst (λ p. HasShown c.args.l.now n p c.loop-number.shown) (λ i s. all s i) c.loop-number.invariant.shown

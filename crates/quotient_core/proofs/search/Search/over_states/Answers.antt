@@ -23,12 +23,13 @@ mark_targets-requires-clause-search g c = Searches-pass c.loop-s.invariant c.sta
 pub mark_targets-requires-clause-room : goal.mark_targets-requires-clause-room
 mark_targets-requires-clause-room g c = let pass = places_ahead-pass c.loop-s.invariant c.states-s-end.ensures.value
     c.loop-s-test.true c.index.ensures c.if-not-index.false in
-    room_after c.requires.room c.loop-s.invariant.visits (omega (arith, pass, c.loop-s.invariant.few))
+    room_after c.requires.room c.loop-s.invariant.visits.1 (omega (arith, pass, c.loop-s.invariant.visits.2))
 
 pub returns-in_err-mark_targets-clause-visits : goal.returns-in_err-mark_targets-clause-visits
 returns-in_err-mark_targets-clause-visits g c = let pass = places_ahead-pass c.loop-s.invariant
     c.states-s-end.ensures.value c.loop-s-test.true c.index.ensures c.if-not-index.false in
-    visits_then c.loop-s.invariant.visits c.mark_targets.ensures.visits (omega (arith, pass, c.loop-s.invariant.few))
+    visits_then c.loop-s.invariant.visits.1 c.mark_targets.ensures.visits
+    (omega (arith, pass, c.loop-s.invariant.visits.2))
 
 pub loop-s-preserved : goal.loop-s-preserved
 loop-s-preserved g c = let pass = places_ahead-pass c.loop-s.invariant c.states-s-end.ensures.value
