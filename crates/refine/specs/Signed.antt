@@ -1,5 +1,4 @@
--- Defines an upper bound on the number of visits (reads of transitions that the meter counts) that are needed to
--- compute the signature of one state.
+-- Defines how many transitions are read at most when the signature of one state is computed.
 use Rattle.std.specs.Prelude.{ℕ, length}
 use Rattle.theory.specs.declared.relation.Relation.{Relation}
 use Rattle.theory.specs.declared.relation.Relation.TheVariants.{Strong, Branching}

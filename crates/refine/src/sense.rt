@@ -1,6 +1,5 @@
 //! Computes the signature of a single state. The type `Marks` owns the working memory for this computation.
 ghost use Rattle.std.specs.Prelude.{◌≡◌, ℕ, ◌<◌, ◌≤◌, ◌++◌, List, length, IfOk, OnOk, OnErr};
-ghost use Rattle.theory.specs.declared.relation.Relation.TheVariants.{Strong as strong};
 ghost use Rattle.memory.specs.declared.limits.TheConstants.{MOST_STATES};
 ghost use Rattle.lts.specs.Meter.{HasRoomFor, Visits};
 ghost use Rattle.lts.specs.Lts.{row_of};
@@ -99,37 +98,18 @@ impl Sense for Strong {
         out: &mut Vec<(u32, u32)>,
         m: &mut M,
     ) -> Result<(), Memory> {
-        sign(l, p.blocks(), s, &mut marks.search.pairs, m)?;
+        lts::rows_are_steps();
+        l.invariants();
+        let under = NewBlocks {
+            l,
+            block_ids: p.blocks(),
+            first_new: 0,
+        };
+        read(&under, s, &mut marks.search.pairs, m)?;
+        order(&mut marks.search.pairs);
         out.extend_from_slice(&marks.search.pairs)?;
         Ok(())
     }
-}
-
-/// Stores in `pairs` the strong signature of the state `s`. The argument `p` contains the block ID of each state.
-fn sign<M: Meter>(
-    l: &Lts<M>,
-    p: &[u32],
-    s: u32,
-    pairs: &mut Vec<(u32, u32)>,
-    m: &mut M,
-) -> Result<(), Memory>
-    requires states { length p.now ≡ l.now.states }
-    requires state { s < l.now.states }
-    requires room { HasRoomFor (M.counted m.old) 0 (length (row_of s l.now.places)) }
-    ensures signature { OnOk result (IsSignature strong l.now p.now s pairs.new.items) }
-    ensures visits { let n = length (row_of s l.now.places) in
-        Visits M.counted m.old m.new result n n }
-{
-    lts::rows_are_steps();
-    l.invariants();
-    let under = NewBlocks {
-        l,
-        block_ids: p,
-        first_new: 0,
-    };
-    read(&under, s, pairs, m)?;
-    order(pairs);
-    Ok(())
 }
 
 impl Sense for Branching {

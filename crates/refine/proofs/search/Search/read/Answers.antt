@@ -1,4 +1,4 @@
-use Rattle.std.proofs.Common.{rules, ◌≡◌, ℕ, ◌∙◌, ◌+◌, ◌≤◌, ◌<◌, List, [], length, slice_index, ap, sym, arith}
+use Rattle.std.proofs.Common.{rules, ◌∙◌, ◌+◌, ◌≤◌, ◌<◌, length, slice_index, ap, sym, arith}
 use Rattle.std.proofs.Transfers.{starts_with_length}
 use Rattle.std.proofs.lemmas.List.{get_or_read, get_or-take}
 use borrow.Author.Count.{below_more}
@@ -17,15 +17,10 @@ module _ (g : Over) (c : After-row-start g) where
       c.row-start.result.1
   row = search (rules, c.requires.more, c.self.view_is, get_or_read, c.index.ensures, c.row-start.ensures)
 
--- A visit is a read of a transition that the meter counts. Suppose that no transition was visited before in the round.
--- Then reading the transition at the place k, which is its index in the list of all transitions, takes one visit.
-one_visit : {visited : List ℕ} → visited ≡ [] → (k : ℕ) → price visited k ≡ 1
-one_visit none k = ap (λ x. price x k) none
-
 pub step-step-requires-clause-room : goal.step-step-requires-clause-room
 step-step-requires-clause-room g c =
     let its = row g (goal.at.step-step-requires-clause-room g c).After-row-start in
-    let one = one_visit c.requires.visited c.loop-k.k in
+    let one = ap (λ x. price x c.loop-k.k) c.requires.visited in
     omega (arith, c.requires.room, c.loop-k.invariant.cost, its.count, c.loop-k-test.true, one)
 
 pub loop-k-preserved : goal.loop-k-preserved
@@ -40,7 +35,7 @@ loop-k-preserved g c =
       row = went u c.args.s c.invariants.ensures.lts c.invariants.ensures.laws c.rows_are_steps.ensures.sources
           (c.rows_are_steps.ensures.steps u.l) c.inert_steps_stay.ensures.block c.loop-k.invariant.row
           (c.requires.found.led c.args.i c.requires.more) at from _ _ step c.in_ok-explore.ensures.takes;
-      cost = search (rules, one_visit c.requires.visited k);
+      cost = search (rules, ap (λ x. price x k) c.requires.visited);
     }
 
 pub returns-clause-found : goal.returns-clause-found

@@ -1,4 +1,4 @@
-use Rattle.std.proofs.Common.{◌↔◌, [], Contains, ap, refl, subst}
+use Rattle.std.proofs.Common.{[], ap, refl, subst}
 use Rattle.theory.specs.declared.relation.Relation.TheVariants.{Branching}
 use Rattle.inert.specs.Signed.{IsSignature}
 use Rattle.refine_core.proofs.CallerLemmas.{none_visited}
@@ -11,10 +11,9 @@ returns-clause-signature g c =
     let zs = c.order.new.pairs.items in
     subst (λ u. IsSignature Branching u.l u.blocks c.args.s zs) c.new-lens.ensures
     (signed u c.args.s c.invariants.ensures.lts c.invariants.ensures.laws c.rows_are_steps.ensures.sources
-    (c.rows_are_steps.ensures.steps u.l)
-    c.inert_steps_stay.ensures.block c.inert_steps_stay.ensures.kept c.find-found.new.self
-    c.in_ok-found.ensures.found zs c.order.ensures.ascending
-    (λ z. subst (λ xs. Contains zs z ↔ Contains xs z) (ap (λ f. f.pairs) c.self.view_is) (c.order.ensures.same z)))
+    (c.rows_are_steps.ensures.steps u.l) c.inert_steps_stay.ensures.block c.inert_steps_stay.ensures.kept
+    c.find-found.new.self c.in_ok-found.ensures.found zs c.order.ensures.ascending
+    (rw (ap (λ f. f.pairs) c.self.view_is) at c.order.ensures.same))
 
 pub new-lens-requires : goal.new-lens-requires
 new-lens-requires g c = let none = none_visited c.args.l.now.places record { rounds = 0; visits = 0 } [] refl in
