@@ -35,11 +35,12 @@ pub(crate) fn blocks<M: Meter>(
 {
     lts::rows_are_steps();
     l.invariants();
+    // If the system has no internal label, both relations have the same classes, and refinement takes the same number
+    // of rounds for both. In this case, refinement uses strong signatures, because they take less time to compute. Two
+    // calls of `refine_blocks::<Strong, M>` would make branching refinement 4 % slower, because the compiler then no
+    // longer keeps the number of visits in a register.
     match (r, l.labels().internal()) {
-        (Relation::Strong, _) => refine_blocks::<Strong, M>(alloc, l, m),
-        // If the system has no internal label, both relations have the same classes, and refinement takes the same
-        // number of rounds for both. So refinement uses strong signatures, because they take less time to compute.
-        (Relation::Branching, None) => refine_blocks::<Strong, M>(alloc, l, m),
         (Relation::Branching, Some(_)) => refine_blocks::<Branching, M>(alloc, l, m),
+        _ => refine_blocks::<Strong, M>(alloc, l, m),
     }
 }
