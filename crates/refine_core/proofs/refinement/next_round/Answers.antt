@@ -1,5 +1,4 @@
 use Rattle.std.proofs.Common.{◌∙◌, length, ap, refl, rules, arith}
-use Rattle.refine_core.proofs.Showing.{Labelled}
 use Rattle.refine_core.proofs.IndexStates.{is_next}
 use Rattle.refine_core.proofs.Spending.{begun_up_to, on_err_from}
 use Rattle.refine_core.proofs.refinement.next_round.Goals as goal
@@ -39,9 +38,8 @@ returns-clause-next g c =
     let l = c.args.l.now in
     let begun = c.in_ok-begun.ensures.begun in
     let is = c.in_ok-signed.ensures.signed.blocks ∙ begun.blocks in
-    let labelled : Labelled l = λ s a t. c.rows_are_steps.ensures.numbered l s a t c.invariants.ensures in
     let known = c.invariants-2.ensures in
-    rw is at (is_next rel l c.invariants.ensures labelled c.args.round.blocks c.in_ok-begun.begun c.in_ok-signed.signed
+    rw is at (is_next rel l c.invariants.ensures c.args.round.blocks c.in_ok-begun.begun c.in_ok-signed.signed
     c.in_ok-next.next begun c.in_ok-signed.ensures.signed known.blocks known.signatures known.have
     (ap (λ p. length p.block_ids) is ∙ c.requires.ready_for_round.states) c.in_ok-next.ensures.same
     c.in_ok-next.ensures.split)

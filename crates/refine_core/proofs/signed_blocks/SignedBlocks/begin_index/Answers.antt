@@ -1,11 +1,7 @@
-use Rattle.std.proofs.Common.{rules, ◌∙◌, length, sym, ap, arith}
-use Rattle.std.proofs.lemmas.Option.{none-some}
+use Rattle.std.proofs.Common.{rules, ◌∙◌, length, ap, arith, inl, inr}
 use Rattle.refine_core.proofs.Signatures.{emptied}
 use Rattle.refine_core.proofs.IndexStates.{none_visited}
 use Rattle.refine_core.proofs.signed_blocks.SignedBlocks.begin_index.Goals as goal
-
-pub forget-requires-clause-none : goal.forget-requires-clause-none
-forget-requires-clause-none g c = rw (c.active.ensures.active) c.self.invariant.none
 
 pub invariant_of-result : goal.invariant_of-result
 invariant_of-result g c =
@@ -16,8 +12,7 @@ pub returns-then-not-needs_index-clause-begins : goal.returns-then-not-needs_ind
 returns-then-not-needs_index-clause-begins g c = let same = c.needs_index.ensures in record {
   blocks = ap (λ r. r.blocks) same;
   cached = ap (λ r. r.cached) same;
-  unbuilt = λ _. same;
-  built = λ some. absurd (some (ap (λ r. r.index) same ∙ c.requires.absent));
+  built = inl same;
   index = rw (ap (λ r. r.index) same ∙ c.requires.absent) tt;
 }
 
@@ -29,7 +24,6 @@ pub returns-clause-begins : goal.returns-clause-begins
 returns-clause-begins g c = record {
   blocks = search rules;
   cached = search rules;
-  unbuilt = λ none. absurd (none-some _ (sym none));
-  built = λ _. search rules;
+  built = inr (λ none. cc, search rules);
   index = c.in_ok-predecessors.ensures.index _ (search rules);
 }

@@ -1,7 +1,7 @@
 use Rattle.std.proofs.Common.{rules, ◌∙◌, length, ap, sym, subst}
 use Rattle.theory.specs.declared.relation.Relation.TheVariants.{Strong}
 use Rattle.refine_core.specs.IndexState.{IsReadyToSign}
-use Rattle.refine_core.proofs.Showing.{strong_signs}
+use Rattle.refine_core.proofs.StrongSignatures.{strong_signs}
 use Rattle.refine_core.proofs.strong.StrongSigning.sign.Goals as goal
 
 pub sign_active-requires-clause-signature_ids : goal.sign_active-requires-clause-signature_ids
