@@ -20,7 +20,7 @@ use Rattle.lts.specs.Lts.{Grouped, IsLts, system_of}
 use Rattle.signatures.specs.Lists.{AreLists, AreIds, list_at}
 use Rattle.signatures.proofs.CallerLemmas.{ascending_unique}
 use Rattle.partition.specs.Splitting.{IsSingleton, Splits}
-use Rattle.partition.specs.Blocks.{RoundBlocks, IsMember, InactiveHaveNone, AreSameOrNone, AreSplitBlocks}
+use Rattle.partition.specs.Blocks.{IsMember, InactiveHaveNone}
 use Rattle.inert.specs.Signed.{CachesBeside, SignsActive, IsSignature}
 use Rattle.refine_core.specs.Signatures.{Signed, HaveSignatures, list_of, Was, IsAsBefore, IsSplitSignature, Follows}
 use Rattle.refine_core.specs.Signatures.{IsListOf}
@@ -53,24 +53,6 @@ pub Splits-signatures : (signatures : List (List (ℕ × ℕ))) (signature_ids o
     → Splits old count (slice_index signature_ids) new more
     → Splits old count (list_of signatures signature_ids) new more
 Splits-signatures signatures signature_ids old count new more are each size splits = search rules
-
--- The active states are the states that the round processes. Suppose that some states are dropped from the active
--- states, and that each dropped state gets the ID of the empty signature. Then the list `signature_ids` still contains
--- the ID of an interned signature for each state.
-pub ids_after_drop : {of active active' : List ℕ} {signatures : List (List (ℕ × ℕ))} {old new : List ℕ}
-    → 1 ≤ length signatures
-    → HaveSignatures of active signatures old
-    → length new ≡ length old → AreSameOrNone old new → InactiveHaveNone active' new
-    → HaveSignatures of active' signatures new
-ids_after_drop {signatures = signatures} {new = new} some have size each none = search (rules, get_or_default)
-
--- A split changes neither the signature ID of a state nor the number of states. Suppose that the list `signature_ids`
--- contains the ID of an interned signature for each state before a split (`HaveSignatures`). Then this list also
--- contains the ID of an interned signature for each state after the split.
-pub have_after_split : {signatures : List (List (ℕ × ℕ))} {signature_ids ns : List ℕ} {p q : RoundBlocks}
-    → AreSplitBlocks p ns q → HaveSignatures p.block_ids p.active signatures signature_ids
-    → HaveSignatures q.block_ids q.active signatures signature_ids
-have_after_split split have = search rules
 
 -- The predicate `has` describes a set of pairs: the pair of a label a and a block b is in the set if `has a b` holds.
 -- `HasLabels` holds if the label of each pair in this set is in the label table.
@@ -187,8 +169,7 @@ empty_was l lts (Some old) of low was s ls none =
 -- Let r be the data of a round (`Signed`): the blocks, the active states (the states that the round processes), the
 -- signatures, and the predecessor index. The following lemmas assume that r is ready for computing branching signatures
 -- (`IsReadyToSign`).
-module _ (l : Grouped) (old : Option (List ℕ)) (r : Signed)
-    (size : length r.blocks.block_ids ≡ l.states) (ready : IsReadyToSign Branching l old r) where
+module _ (l : Grouped) (old : Option (List ℕ)) (r : Signed) (ready : IsReadyToSign Branching l old r) where
   abbrev of : List ℕ
   of = r.blocks.block_ids
 
@@ -219,7 +200,7 @@ module _ (l : Grouped) (old : Option (List ℕ)) (r : Signed)
   cached_beside = let keeps = ready.cached refl in record {
     states = keeps.states;
     each = keeps.signature_ids;
-    beside = λ s t hs ht same one. grind (arith, common_steps, active_or_cached s hs);
+    beside = λ s t hs ht same one. grind (arith, common_steps, active_or_cached s hs, ready.states);
   }
 
   -- The following lemmas assume that the signatures of the active states (the states that the round processes) have

@@ -50,14 +50,16 @@ pub record Awaits (rel : Relation) (l : Grouped) (r : Signed) : Type 0 where
       × (rel ≡ Branching → CachesIds l r.blocks.block_ids r.signatures r.cached old)
 
 -- `IsReadyToSign` holds if r, the data of a round (`Signed`), is ready for computing the signatures of the active
--- states, which are the states that the round processes. The argument `old` contains the block IDs of all states in the
--- last round, and the blocks of r must result from splitting the blocks of the last round (`Follows`). Each state that
--- is neither active nor in a singleton block must have the same signature as in the last round. For branching
--- bisimilarity, the signatures of the last round must be cached (`CachesIds`). If `old` is `None`, no round has run
--- yet, or all signatures have been discarded since the last round. If `old` is `None`, the signature of each state in
--- the last round is taken to be empty. In this case, all blocks must count as new for strong bisimilarity, and the
--- cached signature of each state must be empty for branching bisimilarity.
+-- states, which are the states that the round processes. The data r must contain the block ID of each state of the
+-- system `l`. The argument `old` contains the block IDs of all states in the last round, and the blocks of r must
+-- result from splitting the blocks of the last round (`Follows`). Each state that is neither active nor in a singleton
+-- block must have the same signature as in the last round. For branching bisimilarity, the signatures of the last round
+-- must be cached (`CachesIds`). If `old` is `None`, no round has run yet, or all signatures have been discarded since
+-- the last round. If `old` is `None`, the signature of each state in the last round is taken to be empty. In this case,
+-- all blocks must count as new for strong bisimilarity, and the cached signature of each state must be empty for
+-- branching bisimilarity.
 pub record IsReadyToSign (rel : Relation) (l : Grouped) (old : Option (List ℕ)) (r : Signed) : Type 0 where
+  pub states : length r.blocks.block_ids ≡ l.states
   pub others : OthersSatisfy (IsAsBefore rel l old r.blocks.block_ids) l.states r.blocks.block_ids r.blocks.active
   pub follows : Follows rel l old r.blocks.block_ids r.blocks.first_new
   pub cached : rel ≡ Branching → CachesIds l r.blocks.block_ids r.signatures r.cached old

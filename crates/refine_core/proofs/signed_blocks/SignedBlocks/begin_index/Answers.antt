@@ -1,4 +1,4 @@
-use Rattle.std.proofs.Common.{rules, ◌∙◌, length, ap, arith, inl, inr}
+use Rattle.std.proofs.Common.{rules, ◌∙◌, length, ap, refl, arith, inl, inr}
 use Rattle.refine_core.proofs.Signatures.{emptied}
 use Rattle.refine_core.proofs.IndexStates.{none_visited}
 use Rattle.refine_core.proofs.signed_blocks.SignedBlocks.begin_index.Goals as goal
@@ -9,12 +9,8 @@ invariant_of-result g c =
     c.forget.ensures.states c.self.invariant.states)
 
 pub returns-then-not-needs_index-clause-begins : goal.returns-then-not-needs_index-clause-begins
-returns-then-not-needs_index-clause-begins g c = let same = c.needs_index.ensures in record {
-  blocks = ap (λ r. r.blocks) same;
-  cached = ap (λ r. r.cached) same;
-  built = inl same;
-  index = rw (ap (λ r. r.index) same ∙ c.requires.absent) tt;
-}
+returns-then-not-needs_index-clause-begins g c = rw c.needs_index.ensures
+    (record { blocks = refl; cached = refl; built = inl refl; index = rw c.requires.absent tt })
 
 pub returns-then-not-needs_index-clause-visited : goal.returns-then-not-needs_index-clause-visited
 returns-then-not-needs_index-clause-visited g c =
