@@ -1,4 +1,4 @@
-use Rattle.std.proofs.Common.{◌∙◌, refl, rules}
+use Rattle.std.proofs.Common.{◌∙◌, rules}
 use Rattle.refine_core.proofs.IndexStates.{is_next}
 use Rattle.refine_core.proofs.Spending.{begun_up_to, on_err_from}
 use Rattle.refine_core.proofs.refinement.next_round.Goals as goal
@@ -6,13 +6,6 @@ use Rattle.refine_core.proofs.refinement.next_round.Goals as goal
 pub returns-in_err-begun-clause-err : goal.returns-in_err-begun-clause-err
 returns-in_err-begun-clause-err g c =
     let most = begun_up_to _ _ _ _ _ c.start_round.ensures c.begin_round.ensures.cost in search rules
-
-pub sign_and_visit_rest-requires-clause-ready : goal.sign_and_visit_rest-requires-clause-ready
-sign_and_visit_rest-requires-clause-ready g c = (_, c.in_ok-begun.ensures.begun.ready)
-
-pub sign_and_visit_rest-requires-clause-visited : goal.sign_and_visit_rest-requires-clause-visited
-sign_and_visit_rest-requires-clause-visited g c = let visited = c.in_ok-begun.ensures.visited in
-    record { are = visited.are; rounds = refl; visits = rw (c.visits-before.ensures) visited.visits }
 
 pub returns-in_err-signed-clause-err : goal.returns-in_err-signed-clause-err
 returns-in_err-signed-clause-err g c =

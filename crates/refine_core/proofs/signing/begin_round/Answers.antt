@@ -1,4 +1,4 @@
-use Rattle.std.proofs.Common.{◌∙◌, length, sym, ap}
+use Rattle.std.proofs.Common.{◌∙◌, sym, ap}
 use Rattle.std.proofs.lemmas.Result.{IfOk-weaker}
 use Rattle.refine_core.proofs.IndexStates.{begun_unindexed, none_visited, restarted, searched}
 use Rattle.refine_core.proofs.signing.begin_round.Goals as goal
@@ -13,15 +13,6 @@ returns-then-len-round-clause-visited g c = IfOk-weaker c.activate_all.result _ 
     (λ r again. none_visited _ _ _ (again.visited ∙ ap (λ r. r.visited) c.clear_visited-round.ensures))
     c.activate_all.ensures
 
-pub begin_index-requires-clause-states : goal.begin_index-requires-clause-states
-begin_index-requires-clause-states g c = let is = c.round.view_is ∙ c.clear_visited-round.ensures in
-    ap (λ b. length b.block_ids) (c.in_ok-round.ensures.same.0 ∙ ap (λ r. r.blocks) is)
-    ∙ c.requires.ready_for_round.states
-
-pub begin_index-requires-clause-none : goal.begin_index-requires-clause-none
-begin_index-requires-clause-none g c =
-    c.in_ok-round.ensures.same.2 ∙ ap (λ r. r.visited) (c.round.view_is ∙ c.clear_visited-round.ensures)
-
 -- Suppose that there was no predecessor index, and that the call of `begin_index`, which may build the index, has
 -- succeeded. Then the data of the round is ready for computing signatures (`IsBegun`).
 pub returns-in_default-clause-begun : goal.returns-in_default-clause-begun
@@ -30,13 +21,6 @@ returns-in_default-clause-begun g c = IfOk-weaker c.begin_index.result _ _
     (c.round.view_is ∙ c.clear_visited-round.ensures) (sym c.take.ensures.value ∙ c.in_default.is)
     c.requires.ready_for_round c.in_ok-round.ensures.same.0 c.in_ok-round.ensures.discarded)
     (rw c.signed_relation-relation.ensures at c.begin_index.ensures.begins)
-
-pub find_active-requires-clause-index : goal.find_active-requires-clause-index
-find_active-requires-clause-index g c =
-    let is = c.round.view_is ∙ c.clear_visited-round.ensures in
-    let some = ap (λ r. r.index) (sym is) ∙ sym c.take.ensures.value ∙ c.in-Some.is in
-    rw (c.signed_relation-relation.ensures, ap (λ r. r.blocks.block_ids) is)
-    (rw some at c.requires.ready_for_round.index)
 
 -- Suppose that there was a predecessor index, and that the call of `find_active`, which searches the index, has
 -- succeeded. Then the data of the round is ready for computing signatures (`IsBegun`).

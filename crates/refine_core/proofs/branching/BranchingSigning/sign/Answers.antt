@@ -1,4 +1,4 @@
-use Rattle.std.proofs.Common.{rules, ◌∙◌, sym, subst, arith}
+use Rattle.std.proofs.Common.{◌∙◌, sym, subst, arith}
 use Rattle.std.proofs.lemmas.List.{take_at}
 use Rattle.theory.specs.declared.relation.Relation.TheVariants.{Branching}
 use Rattle.inert.specs.Signed.{SignsActive}
@@ -10,9 +10,6 @@ pub sign_each-requires-clause-cached : goal.sign_each-requires-clause-cached
 sign_each-requires-clause-cached g c =
     cached_beside c.args.l.now _ _
     (subst (IsReadyToSign Branching c.args.l.now _) (sym c.round.view_is) c.requires.ready.1)
-
-pub sign_each-requires-clause-signature_ids : goal.sign_each-requires-clause-signature_ids
-sign_each-requires-clause-signature_ids g c = search (rules, c.deref_mut.ensures.value, c.round.invariant.none)
 
 pub invariant_of-round : goal.invariant_of-round
 invariant_of-round g c =

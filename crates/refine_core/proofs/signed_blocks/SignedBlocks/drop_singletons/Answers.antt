@@ -1,4 +1,4 @@
-use Rattle.std.proofs.Common.{◌∙◌, length, ap, arith, inl}
+use Rattle.std.proofs.Common.{◌∙◌, length, ap, arith}
 use Rattle.std.proofs.lemmas.List.{get_or_default}
 use Rattle.refine_core.proofs.Signatures.{written_back}
 use Rattle.refine_core.proofs.signed_blocks.SignedBlocks.drop_singletons.Goals as goal
@@ -13,6 +13,3 @@ invariant_of-result c =
     (λ s d h. grind (arith, get_or_default _ s d 0 h, same s, have.each s 0, c.invariants.ensures.some, size))
     c.in_ok-blocks.ensures.none (size ∙ have.states)
     (omega (arith, c.drop_singletons.auto.signature_ids, c.deref_mut.ensures.len)))
-
-pub returns-then-is_some-clause-leaves : goal.returns-then-is_some-clause-leaves
-returns-then-is_some-clause-leaves c = record { were = λ s one. one; are = λ s one. inl one }

@@ -11,10 +11,6 @@ sign_active-requires-clause-signature_ids g c = record {
   none = rw (c.active.ensures.active) c.round.invariant.none;
 }
 
-pub invariant_of-round : goal.invariant_of-round
-invariant_of-round g c =
-    rw (c.block_ids.ensures.block_ids, c.active.ensures.active) at c.in_ok-sign_active.ensures.signature_ids
-
 pub returns-clause-signed : goal.returns-clause-signed
 returns-clause-signed g c old ready =
     let have = c.invariants-2.ensures.have in
