@@ -1,10 +1,7 @@
 pub mod CallerLemmas
-pub mod Showing
 pub mod Spending
+pub mod StrongSignatures
 pub mod Signatures
-pub mod ActiveStates
 pub mod Finding
 pub mod Searching
 pub mod IndexStates
-pub mod Indexing
-pub mod CachedSignatures

@@ -1,6 +1,6 @@
 use Rattle.std.proofs.Common.{◌≡◌, ◌∙◌, ℕ, ◌+◌, ◌-◌, ◌*◌, ◌/◌, ◌%◌, ◌<◌, ap, refl, arith, rules}
 use Rattle.std.proofs.lemmas.List.{take_all}
-use Rattle.refine_core.proofs.ActiveStates.{pairs_none, pairs_more}
+use Rattle.refine_core.proofs.StrongSignatures.{pairs_none, pairs_more}
 use Rattle.refine_core.proofs.strong.read.Goals as goal
 use Rattle.refine_core.proofs.strong.read.Goals.{then-end-start-eq1, else-end-start-eq1}
 

@@ -2,7 +2,7 @@ use Rattle.std.proofs.Common.{◌<◌, ◌≤◌, refl, rules, arith}
 use Rattle.std.proofs.lemmas.List.{take_all}
 use Rattle.lts.specs.Visited.{price_between}
 use Rattle.lts.proofs.CallerLemmas.{row_left, price_none, price_first, price_split, price_one_more}
-use Rattle.refine_core.proofs.ActiveStates.{row_all, pairs_none, pairs_more}
+use Rattle.refine_core.proofs.StrongSignatures.{row_all, pairs_none, pairs_more}
 use Rattle.refine_core.proofs.strong.read_unvisited.Goals as goal
 
 pub read-requires-clause-room : goal.read-requires-clause-room

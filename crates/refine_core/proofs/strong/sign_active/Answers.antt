@@ -3,7 +3,7 @@ use Rattle.std.proofs.Common.{sym, ◌∙◌, ◌≡◌, ◌≤◌, rules, ◌+�
 use Rattle.lts.specs.Lts.{before, row_of}
 use Rattle.lts.specs.Visited.{remaining_of}
 use Rattle.lts.proofs.CallerLemmas.{before-mono, before-next, before-le}
-use Rattle.refine_core.proofs.ActiveStates.{signed_more, inactive_none_more}
+use Rattle.refine_core.proofs.StrongSignatures.{signed_more, inactive_none_more}
 use Rattle.refine_core.proofs.strong.sign_active.Goals as goal
 use Rattle.refine_core.proofs.strong.sign_active.Given.{Over}
 use Rattle.refine_core.proofs.strong.sign_active.Goals.{In-loop-i}
