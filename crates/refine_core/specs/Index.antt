@@ -139,7 +139,7 @@ pub record MarksFound (states : ℕ) (at : Affected) : Type 0 where
 
 -- `SearchIsOn` holds while a search is in progress. The list `of` must contain the block ID of each state. The record
 -- `at` contains the predecessor index, the marks of the states, and the states that were found so far. The predecessor
--- index, which stores the transitions that lead to each state, must be correct (`IsIndex`). Exactly the found states
+-- index, which stores the transitions that lead to each state, must be correct (`HasIndex`). Exactly the found states
 -- must be marked. The list `xs` must contain the places (indices) of the transitions that were visited so far, and must
 -- contain no place twice. A visit is a read of a transition that the meter counts. Since the search began, the meter
 -- must have counted one visit for each place in `xs`, and no round. The record `start` contains the counts of the meter
@@ -147,8 +147,7 @@ pub record MarksFound (states : ℕ) (at : Affected) : Type 0 where
 -- had room for one visit of each transition.
 pub record SearchIsOn (l : Grouped) (of : List ℕ) (rel : Relation) (start now : Counts) (at : Affected) (xs : List ℕ) :
     Type 0 where
-  pub blocks : length of ≡ l.states
-  pub index : IsIndex l (IsInner rel l of) at.incoming
+  pub has : HasIndex rel l of at.index
   pub marked : MarksFound (length of) at
   pub visited : HasVisited l.places start now xs
   pub room : HasRoomFor start 0 (length l.places)
