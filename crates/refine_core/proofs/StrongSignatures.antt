@@ -2,7 +2,7 @@
 -- of a transition consists of its label ID and the block ID of its target. For strong bisimilarity, the signature of a
 -- state is the list of the pairs of its transitions, in ascending order and without duplicates.
 use Rattle.std.proofs.Common.{rules, ◌≡◌, ◌↔◌, ℕ, ◌+◌, ◌<◌, List, [], length, slice_index, set, Contains, arith, ◌-◌}
-use Rattle.std.proofs.Common.{◌∷◌, ◌++◌, ◌≤◌, take, map, sym, refl, ap, inl, inr, ◌∙◌, Option, None, Some}
+use Rattle.std.proofs.Common.{◌≤◌, take, map, sym, refl, ap, inl, inr, ◌∙◌, Option, None, Some}
 use Rattle.std.proofs.lemmas.Grind.{common_steps}
 use Rattle.std.proofs.lemmas.List.{get_or-map, get_or-set_other, length-map, length-set}
 use Rattle.std.proofs.lemmas.List.Elements.{All-contains}
@@ -142,18 +142,6 @@ module _ (blocks : List ℕ) (places : List Triple) (s start : ℕ) where
 
   pub pairs_none : [] ≡ pairs_to start
   pairs_none = search rules
-
-  -- The place of a transition is its index in the list of all transitions, and its pair consists of its label ID and
-  -- the block ID of its target. Suppose that the list `pairs` consists of the pairs of those transitions of the state s
-  -- whose places are less than k. Suppose that the transition at the place k is also a transition of s, and that the
-  -- list `new` results from appending the pair of this transition to `pairs`. Then `new` consists of the pairs of those
-  -- transitions of s whose places are less than k + 1.
-  pub pairs_more : (k next : ℕ) {label target : ℕ} {pairs new : List (ℕ × ℕ)}
-      → take ((k + 1) - start) (row_of s places) ≡ take (k - start) (row_of s places) ++ place_at places k ∷ []
-      → next ≡ k + 1 → label ≡ (place_at places k).1 → target ≡ (place_at places k).2 → pairs ≡ pairs_to k
-      → new ≡ pairs ++ (label, slice_index blocks target) ∷ [] → new ≡ pairs_to next
-  pairs_more k next {label = label} {target = target} row is_next is_label is_target before after =
-      grind (arith, common_steps)
 
 -- A visit is a read of a transition that the meter counts. Suppose that no transition was visited yet. Then the number
 -- of unvisited transitions of a state is the number of all transitions of this state.

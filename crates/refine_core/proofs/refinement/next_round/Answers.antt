@@ -19,11 +19,9 @@ returns-in_err-next-clause-err g c =
 
 pub returns-clause-next : goal.returns-clause-next
 returns-clause-next g c =
-    let rel = g.S.Signing.relation in
-    let l = c.args.l.now in
     let begun = c.in_ok-begun.ensures.begun in
     let is = c.in_ok-signed.ensures.signed.blocks ∙ begun.blocks in
     let known = c.invariants-2.ensures in
-    rw is at (is_next rel l c.invariants.ensures c.args.round.blocks c.in_ok-begun.begun c.in_ok-signed.signed
+    rw is at (is_next _ _ c.invariants.ensures c.args.round.blocks c.in_ok-begun.begun c.in_ok-signed.signed
     c.in_ok-next.next begun c.in_ok-signed.ensures.signed known.blocks known.signatures known.have
     c.in_ok-next.ensures.same c.in_ok-next.ensures.split)

@@ -1,4 +1,6 @@
 use Rattle.std.proofs.Common.{◌≡◌, suc, ◌+◌, ◌*◌, ◌≤◌, [], ◌∷◌, length, slice_index, None, ap, sym, ◌∙◌, arith}
+use Rattle.std.proofs.Common.{inl, inr}
+use Rattle.std.proofs.Math.Logic.{⊎_map}
 use Rattle.std.proofs.lemmas.Nat.{mul-le}
 use Rattle.std.proofs.Math.Nat.{suc-mul, add-mul}
 use Rattle.theory.specs.Blocks.{Turns}
@@ -9,20 +11,18 @@ use Rattle.refine_core.proofs.Spending.{on_err_from}
 use Rattle.partition.specs.Blocks.{RoundBlocks}
 use Rattle.partition.specs.Renumberings.{WereHalved}
 use Rattle.partition.proofs.CallerLemmas.{one_block, halved}
-use Rattle.refine_core.proofs.IndexStates.{awaits_after_drop}
 use Rattle.refine_core.proofs.refinement.refine_blocks.Goals as goal
 use Rattle.refine_core.proofs.refinement.refine_blocks.Given.{Over}
 use Rattle.refine_core.proofs.refinement.refine_blocks.Goals.{After-count-more}
 
 pub loop-before-init : goal.loop-before-init
 loop-before-init g c =
-    let rel = g.S.Signing.relation in
     let l = c.args.l.now in
     let ids = c.in_ok-blocks.blocks.block_ids in
     let blocks = c.in_ok-blocks.ensures in
     let is = c.in_ok-round.ensures.blocks ∙ c.with_active-blocks.ensures.same in
     let one = one_block l.states ids c.states.result (sym c.states.ensures.value) blocks.one in
-    let on = c.refinement_goes_on.ensures.begun rel (system_of l) (slice_index ids) c.states.ensures.lts.system one in
+    let on = c.refinement_goes_on.ensures.begun g.S.Signing.relation (system_of l) _ c.states.ensures.lts.system one in
     record {
       awaits = record {
         states = rw is (blocks.states ∙ c.states.ensures.value);
@@ -36,9 +36,23 @@ loop-before-init g c =
           (record { rounds = 0; fewer = omega arith; past = []; were = (one, tt); underway = on; costs = omega arith });
     }
 
+-- The active states are the states that the round processes. If some states in singleton blocks are dropped from the
+-- active states, the data of the round is still ready for a new round (`Awaits`).
 pub next_round-requires-clause-ready_for_round : goal.next_round-requires-clause-ready_for_round
 next_round-requires-clause-ready_for_round g c =
-    awaits_after_drop _ _ _ _ c.in_ok-before.ensures.same c.in_ok-before.ensures.leaves c.loop-before.invariant.awaits
+    let a = c.loop-before.invariant.awaits in
+    let leaves = c.in_ok-before.ensures.leaves in
+    rw c.in_ok-before.ensures.same (record {
+      states = a.states;
+      old = a.old;
+      follows = a.follows;
+      all = λ none s h. elim (a.all none s h) [
+        | inl one ↦ ⊎_map (λ one. one) inl (leaves.are s one)
+        | inr other ↦ inr other
+      ];
+      index = a.index;
+      later = a.later;
+    })
 
 pub next_round-requires-clause-room : goal.next_round-requires-clause-room
 next_round-requires-clause-room g c =
@@ -81,16 +95,15 @@ module _ (g : Over) (c : After-count-more g) where
   -- round that has split no block, so `Turns` holds for the number of all rounds, including this round.
   turns : c.count-more.result ≡ c.count-count.result →
       Turns g.S.Signing.relation (system_of c.args.l.now) (suc c.loop-before.invariant.made.rounds)
-  turns e = c.refinement_goes_on.ensures.done _ (system_of c.args.l.now) _ (slice_index old.block_ids) _
-      c.states.ensures.lts.system c.loop-before.invariant.made.underway next.split
+  turns e = c.refinement_goes_on.ensures.done _ _ _ _ _ c.states.ensures.lts.system
+      c.loop-before.invariant.made.underway next.split
       (next.same.0 (omega (arith, e, ap (λ r. r.blocks.count) c.in_ok-before.ensures.same)))
 
 pub returns-then-more-count-clause-bisimilar : goal.returns-then-more-count-clause-bisimilar
 returns-then-more-count-clause-bisimilar g c =
     let d = (goal.at.returns-then-more-count-clause-bisimilar g c).After-count-more in
     rw c.into_blocks-blocks.ensures
-    (c.final_blocks_are_bisimilarity.ensures g.S.Signing.relation (system_of c.args.l.now) _
-    (slice_index c.in_ok-next.next.blocks.block_ids) c.states.ensures.lts.system (turns g d c.if-more-count.true)
+    (c.final_blocks_are_bisimilarity.ensures _ _ _ _ c.states.ensures.lts.system (turns g d c.if-more-count.true)
     (slice_index (old g d).block_ids, c.loop-before.invariant.made.underway.after, (next g d).split))
 
 pub returns-then-more-count-clause-few : goal.returns-then-more-count-clause-few
@@ -120,12 +133,10 @@ loop-before-preserved g c =
     let made = c.loop-before.invariant.made in
     let next = next g d in
     let counts = ap (λ r. r.blocks.count) c.in_ok-before.ensures.same in
-    let rel = g.S.Signing.relation in
-    let A = system_of c.args.l.now in
     let system = c.states.ensures.lts.system in
-    let on = c.refinement_goes_on.ensures.more rel A made.rounds (slice_index c.loop-before.round.blocks.block_ids) _
-    system made.underway next.split (λ same. c.if-more-count.false (omega (arith, next.same.1 same, counts))) in
-    let fewer = c.refinement_goes_on.ensures.below rel A _ _ system on in
+    let on = c.refinement_goes_on.ensures.more _ _ _ _ _ system made.underway next.split
+    (λ same. c.if-more-count.false (omega (arith, next.same.1 same, counts))) in
+    let fewer = c.refinement_goes_on.ensures.below _ _ _ _ system on in
     let costs = costs g d in
     record {
       awaits = next.awaits;

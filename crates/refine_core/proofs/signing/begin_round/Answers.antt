@@ -4,8 +4,8 @@ use Rattle.refine_core.proofs.IndexStates.{begun_unindexed, none_visited, restar
 use Rattle.refine_core.proofs.signing.begin_round.Goals as goal
 
 pub returns-then-len-round-clause-begun : goal.returns-then-len-round-clause-begun
-returns-then-len-round-clause-begun g c = let l = c.args.l.now in IfOk-weaker c.activate_all.result _ _
-    (λ r. restarted g.S.Signing.relation l c.args.round r c.requires.ready_for_round)
+returns-then-len-round-clause-begun g c = IfOk-weaker c.activate_all.result _ _
+    (λ r. restarted _ _ _ r c.requires.ready_for_round)
     (rw c.clear_visited-round.ensures at c.activate_all.ensures)
 
 pub returns-then-len-round-clause-visited : goal.returns-then-len-round-clause-visited
@@ -17,16 +17,15 @@ returns-then-len-round-clause-visited g c = IfOk-weaker c.activate_all.result _ 
 -- succeeded. Then the data of the round is ready for computing signatures (`IsBegun`).
 pub returns-in_default-clause-begun : goal.returns-in_default-clause-begun
 returns-in_default-clause-begun g c = IfOk-weaker c.begin_index.result _ _
-    (λ r. begun_unindexed g.S.Signing.relation c.args.l.now c.args.round _ c.in_ok-round.round r
-    (c.round.view_is ∙ c.clear_visited-round.ensures) (sym c.take.ensures.value ∙ c.in_default.is)
-    c.requires.ready_for_round c.in_ok-round.ensures.same.0 c.in_ok-round.ensures.discarded)
+    (λ r. begun_unindexed _ _ _ _ c.in_ok-round.round r (c.round.view_is ∙ c.clear_visited-round.ensures)
+    (sym c.take.ensures.value ∙ c.in_default.is) c.requires.ready_for_round c.in_ok-round.ensures.same.0
+    c.in_ok-round.ensures.discarded)
     (rw c.signed_relation-relation.ensures at c.begin_index.ensures.begins)
 
 -- Suppose that there was a predecessor index, and that the call of `find_active`, which searches the index, has
 -- succeeded. Then the data of the round is ready for computing signatures (`IsBegun`).
 pub returns-clause-begun : goal.returns-clause-begun
 returns-clause-begun g c = IfOk-weaker c.find_active.result _ _
-    (λ r. searched g.S.Signing.relation c.args.l.now c.invariants.ensures c.args.round _ r _
-    (c.round.view_is ∙ c.clear_visited-round.ensures) (sym c.take.ensures.value ∙ c.in-Some.is)
-    c.requires.ready_for_round)
+    (λ r. searched _ _ c.invariants.ensures _ _ r _ (c.round.view_is ∙ c.clear_visited-round.ensures)
+    (sym c.take.ensures.value ∙ c.in-Some.is) c.requires.ready_for_round)
     (rw (c.take.ensures.after, c.signed_relation-relation.ensures) at c.find_active.ensures.found)

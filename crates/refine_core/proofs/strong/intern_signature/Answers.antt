@@ -7,18 +7,16 @@ use Rattle.refine_core.proofs.strong.intern_signature.Goals as goal
 
 pub returns-then-not-branch-clause-put : goal.returns-then-not-branch-clause-put
 returns-then-not-branch-clause-put g c =
-    let l = c.args.under.now.l.now in
     let read = c.in_ok-read_unvisited.ensures in
-    rw c.invariants-2.ensures.first (row_unaffected l _ c.args.s c.invariants.ensures
-    (c.rows_are_steps.ensures.sources c.args.s l.places) (c.rows_are_steps.ensures.steps l c.args.s)
-    c.args.under.now.first_new (rw read.pairs at (iff_false read.affected c.if-not-branch.true)))
+    rw c.invariants-2.ensures.first (row_unaffected _ _ _ c.invariants.ensures (c.rows_are_steps.ensures.sources _ _)
+    (c.rows_are_steps.ensures.steps c.args.under.now.l.now _) c.args.under.now.first_new
+    (rw read.pairs at (iff_false read.affected c.if-not-branch.true)))
 
 pub returns-clause-put : goal.returns-clause-put
 returns-clause-put g c =
-    let l = c.args.under.now.l.now in
     let read = c.in_ok-read_unvisited.ensures in
-    let put = row_affected l c.args.under.now.block_ids.now c.args.s c.invariants.ensures
-    (c.rows_are_steps.ensures.sources c.args.s l.places) (c.rows_are_steps.ensures.steps l c.args.s)
+    let put = row_affected _ c.args.under.now.block_ids.now c.args.s c.invariants.ensures
+    (c.rows_are_steps.ensures.sources _ _) (c.rows_are_steps.ensures.steps c.args.under.now.l.now _)
     c.order.new.pairs.items c.order.ensures.ascending (rw read.pairs at c.order.ensures.same)
     c.args.under.now.first_new (rw read.pairs at (read.affected.0 c.if-not-branch.false)) in
     IfOk-weaker c.push.result _ _

@@ -5,11 +5,8 @@ use Rattle.refine_core.proofs.StrongSignatures.{strong_signs}
 use Rattle.refine_core.proofs.strong.StrongSigning.sign.Goals as goal
 
 pub sign_active-requires-clause-signature_ids : goal.sign_active-requires-clause-signature_ids
-sign_active-requires-clause-signature_ids g c = record {
-  size = search rules;
-  ascending = search rules;
-  none = rw (c.active.ensures.active) c.round.invariant.none;
-}
+sign_active-requires-clause-signature_ids g c =
+    search (rules, rw (sym c.active.ensures.active) at c.round.invariant.none)
 
 pub returns-clause-signed : goal.returns-clause-signed
 returns-clause-signed g c old ready =
