@@ -3,7 +3,6 @@ pub mod Showing
 pub mod Spending
 pub mod Signatures
 pub mod ActiveStates
-pub mod Finding
 pub mod Searching
 pub mod IndexStates
 pub mod Indexing
