@@ -1,9 +1,6 @@
 pub mod CallerLemmas
-pub mod Showing
 pub mod Spending
+pub mod StrongSignatures
 pub mod Signatures
-pub mod ActiveStates
 pub mod Searching
 pub mod IndexStates
-pub mod Indexing
-pub mod CachedSignatures

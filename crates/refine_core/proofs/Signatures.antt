@@ -1,11 +1,31 @@
--- Lemmas about the list `signature_ids` of the signature IDs of all states. The lemmas show that this list contains the
--- ID of an interned signature for each state (`HaveSignatures`).
-use Rattle.std.proofs.Common.{rules, ◌≡◌, ℕ, ◌<◌, ◌≤◌, List, ◌++◌, length, take, slice_index}
+-- Signatures are interned. They are stored as lists of pairs in ascending order, and different signatures have
+-- different IDs. Two signatures are equal if and only if their lists are equal. The split signature of a state is empty
+-- if the signature of the state has not changed since the last round, and otherwise it is the new signature. A split
+-- separates two states of a block if their split signatures differ. The proofs in this file show that a split by the
+-- split signatures has the same result as a split by the signatures. The last proofs are about the signatures that are
+-- cached from round to round for branching bisimilarity. They show that, if the cached signatures are correct before a
+-- round, then the cached signatures are also correct after the round.
+use Rattle.std.proofs.Common.{rules, ◌≡◌, ◌⊎◌, ◌↔◌, ◌∙◌, ℕ, ◌<◌, ◌≤◌, List, [], ◌++◌, length, take, slice_index, Option}
+use Rattle.std.proofs.Common.{None, Some, subst, sym, ap, refl, inl, inr, arith}
+use Rattle.std.proofs.lemmas.Grind.{common_steps}
+use Rattle.std.proofs.Math.Logic.{⊎_map}
 use Rattle.std.proofs.lemmas.List.{get_or_default, take_at}
-use Rattle.signatures.specs.Lists.{AreLists, AreIds}
-use Rattle.partition.specs.Blocks.{RoundBlocks, InactiveHaveNone, AreSameOrNone, AreSplitBlocks}
-use Rattle.refine_core.specs.Signatures.{list_of, HaveSignatures}
-use Rattle.partition.specs.Splitting.{Splits}
+use Rattle.theory.specs.declared.relation.Relation.{Relation}
+use Rattle.theory.specs.declared.relation.Relation.TheVariants.{Strong, Branching}
+use Rattle.theory.specs.Blocks.{SameSignature, Split}
+use Rattle.theory.specs.Unaffected.{HasEmptySignature}
+use Rattle.theory.proofs.CallerLemmas.{empty_before}
+use Rattle.lts.specs.Labels.{text_of, IsLabelId}
+use Rattle.lts.specs.Lts.{Grouped, IsLts, system_of}
+use Rattle.signatures.specs.Lists.{AreLists, AreIds, list_at}
+use Rattle.signatures.proofs.CallerLemmas.{ascending_unique}
+use Rattle.partition.specs.Splitting.{IsSingleton, Splits}
+use Rattle.partition.specs.Blocks.{IsMember, InactiveHaveNone}
+use Rattle.inert.specs.Signed.{CachesBeside, SignsActive, IsSignature}
+use Rattle.refine_core.specs.Signatures.{Signed, HaveSignatures, list_of, Was, IsAsBefore, IsSplitSignature, Follows}
+use Rattle.refine_core.specs.Signatures.{IsListOf}
+use Rattle.refine_core.specs.IndexState.{IsReadyToSign, SignsEach}
+use Rattle.refine_core.proofs.StrongSignatures.{Labelled, labels_have_ids}
 
 -- Suppose that the list `signature_ids` contains the ID of an interned signature for each of the n states. Suppose that
 -- the list contains the ID of the empty signature for each state that is not active (not processed by the round).
@@ -34,20 +54,231 @@ pub Splits-signatures : (signatures : List (List (ℕ × ℕ))) (signature_ids o
     → Splits old count (list_of signatures signature_ids) new more
 Splits-signatures signatures signature_ids old count new more are each size splits = search rules
 
--- The active states are the states that the round processes. Suppose that some states are dropped from the active
--- states, and that each dropped state gets the ID of the empty signature. Then the list `signature_ids` still contains
--- the ID of an interned signature for each state.
-pub ids_after_drop : {of active active' : List ℕ} {signatures : List (List (ℕ × ℕ))} {old new : List ℕ}
-    → 1 ≤ length signatures
-    → HaveSignatures of active signatures old
-    → length new ≡ length old → AreSameOrNone old new → InactiveHaveNone active' new
-    → HaveSignatures of active' signatures new
-ids_after_drop {signatures = signatures} {new = new} some have size each none = search (rules, get_or_default)
+-- The predicate `has` describes a set of pairs: the pair of a label a and a block b is in the set if `has a b` holds.
+-- `HasLabels` holds if the label of each pair in this set is in the label table.
+abbrev HasLabels : Grouped → (List ℕ → ℕ → Type 0) → Type 0
+HasLabels l has = (a : List ℕ) (b : ℕ) → has a b → (k : ℕ) × IsLabelId l.labels k a
 
--- A split changes neither the signature ID of a state nor the number of states. Suppose that the list `signature_ids`
--- contains the ID of an interned signature for each state before a split (`HaveSignatures`). Then this list also
--- contains the ID of an interned signature for each state after the split.
-pub have_after_split : {signatures : List (List (ℕ × ℕ))} {signature_ids ns : List ℕ} {p q : RoundBlocks}
-    → AreSplitBlocks p ns q → HaveSignatures p.block_ids p.active signatures signature_ids
-    → HaveSignatures q.block_ids q.active signatures signature_ids
-have_after_split split have = search rules
+-- Suppose that the label of each step is in the label table (`Labelled`). Then the label of each pair in the signature
+-- that a state had in the last round is in the label table.
+pub label_id_of : (l : Grouped) → Labelled l → (rel : Relation) (old : Option (List ℕ)) (s : ℕ)
+    → HasLabels l (Was rel l old s)
+label_id_of l labelled rel None s a b h = absurd h
+label_id_of l labelled Strong (Some old) s a b h = labelled s a h.0 h.1
+label_id_of l labelled Branching (Some old) s a b h = labelled h.0 a h.1 h.3
+
+carried_over : (l : Grouped) (P Q : List ℕ → ℕ → Type 0) (xs : List (ℕ × ℕ)) → HasLabels l P → IsListOf l P xs
+    → IsListOf l Q xs → (a : List ℕ) (b : ℕ) → P a b → Q a b
+carried_over l P Q xs labelled of_p of_q a b h = let (k, number) = labelled a b h in
+    rw number.text at ((of_q.1 k b).0 ((of_p.1 k b).1 (number.below, rw number.text h))).1
+
+-- The predicates P and Q describe two sets of pairs (label, block). Suppose that the list xs stores the set that P
+-- describes, and that the list ys stores the set that Q describes (`IsListOf`). Suppose also that all labels in both
+-- sets are in the label table. Then xs and ys are equal if and only if the two sets are equal.
+pub equal_represented : (l : Grouped) (P Q : List ℕ → ℕ → Type 0) (xs ys : List (ℕ × ℕ)) → HasLabels l P → HasLabels l Q
+    → IsListOf l P xs → IsListOf l Q ys → (xs ≡ ys) ↔ ((a : List ℕ) (b : ℕ) → P a b ↔ Q a b)
+equal_represented l P Q xs ys in_p in_q of_p of_q = (
+  λ e a b. let is = subst (IsListOf l Q) (sym e) of_q in
+      (carried_over l P Q xs in_p of_p is a b, carried_over l Q P xs in_q is of_p a b),
+  λ same. ascending_unique xs ys of_p.0 of_q.0 (λ z. let is = same (text_of l.labels z.0) z.1 in
+      grind (arith, of_p.1 z.0 z.1, of_q.1 z.0 z.1, is)),
+)
+
+-- Suppose that the label of each step is in the label table (`Labelled`). Suppose that the list xs stores the signature
+-- of the state s, and that the list ys stores the signature of the state t (`IsSignature`). Then xs and ys are equal if
+-- and only if the signatures of s and t are equal.
+pub equal_lists : (rel : Relation) (l : Grouped) (labelled : Labelled l) (blocks : List ℕ) (s t : ℕ)
+    (xs ys : List (ℕ × ℕ)) → IsSignature rel l blocks s xs → IsSignature rel l blocks t ys
+    → (xs ≡ ys) ↔ SameSignature rel (system_of l) (slice_index blocks) s t
+equal_lists rel l labelled blocks s t xs ys of_s of_t =
+    equal_represented l _ _ xs ys (label_id_of l labelled rel (Some blocks) s)
+    (label_id_of l labelled rel (Some blocks) t) (of_s.ascending, of_s.exactly) (of_t.ascending, of_t.exactly)
+
+-- Suppose that the blocks result from splitting the blocks of the last round (`Follows`), and that two states share a
+-- block. Then the two states had equal signatures in the last round. If the block IDs of the last round are not known
+-- (`old` is `None`), all signatures in the last round are taken to be empty.
+was_alike : (rel : Relation) (l : Grouped) (old : Option (List ℕ)) (of : List ℕ) (low : ℕ) → Follows rel l old of low
+    → (s t : ℕ) → s < l.states → t < l.states → slice_index of s ≡ slice_index of t
+    → (a : List ℕ) (b : ℕ) → Was rel l old s a b ↔ Was rel l old t a b
+was_alike rel l None of low was s t ls lt one a b = (λ h. h, λ h. h)
+was_alike rel l (Some old) of low was s t ls lt one a b = ((was.split s t ls lt).0 one).1 a b
+
+-- In the following lemmas, the list `shown s` stands for the split signature of the state s. The split signature of s
+-- is empty if the signature of s has not changed since the last round, and otherwise it is the new signature.
+module _ (rel : Relation) (l : Grouped) (labelled : Labelled l) (old : Option (List ℕ)) (of : List ℕ) (low : ℕ)
+    (size : length of ≡ l.states) (was : Follows rel l old of low) (shown : ℕ → List (ℕ × ℕ)) where
+  -- `Each` holds if the state s is in a singleton block (a block with one state), or if the list `shown s` is the split
+  -- signature of s. The split signature of s is empty if the signature of s has not changed since the last round, and
+  -- otherwise it is the new signature.
+  abbrev Each : ℕ → Type 0
+  Each s = IsSingleton of s ⊎ IsSplitSignature rel l old of s (shown s)
+
+  -- `Tells` is about the lists `shown s` and `shown t`, which stand for the split signatures of the states s and t. It
+  -- holds if these two lists are equal if and only if the signatures of s and t are equal.
+  abbrev Tells : ℕ → ℕ → Type 0
+  Tells s t = (shown s ≡ shown t) ↔ SameSignature rel (system_of l) (slice_index of) s t
+
+  one_state : (s t : ℕ) → s ≡ t → Tells s t
+  one_state s t e = subst (Tells s) e (λ h a b. (λ p. p, λ p. p), λ h. refl)
+
+  -- Suppose that the states s and t share a block. Suppose that the signature of s is the same as in the last round,
+  -- and that the signature of t has changed. Then the signatures of s and t are not equal.
+  differ : (s t : ℕ) → s < l.states → t < l.states → slice_index of s ≡ slice_index of t → IsAsBefore rel l old of s
+      → ¬ IsAsBefore rel l old of t → ¬ SameSignature rel (system_of l) (slice_index of) s t
+  differ s t ls lt one p q same =
+      q (λ a b. grind (arith, p a b, same a b, was_alike rel l old of low was s t ls lt one a b))
+
+  -- The split signature of a state is empty if the signature of the state has not changed since the last round, and
+  -- otherwise it is the new signature. Suppose that the states s and t share a block. Then the split signatures of s
+  -- and t are equal if and only if the signatures of s and t are equal.
+  told : (s t : ℕ) → s < l.states → t < l.states → slice_index of s ≡ slice_index of t → Each s → Each t → Tells s t
+  told s t ls lt one (inl only) y = one_state s t (sym (only t (omega (arith, lt, size)) (sym one)))
+  told s t ls lt one (inr x) (inl only) = one_state s t (only s (omega (arith, ls, size)) one)
+  told s t ls lt one (inr (inl p)) (inr (inl q)) = (
+    λ h a b. grind (arith, p.1 a b, q.1 a b, was_alike rel l old of low was s t ls lt one a b),
+    λ h. p.0 ∙ sym q.0,
+  )
+  told s t ls lt one (inr (inl p)) (inr (inr q)) = grind (arith, p.0, q.0, differ s t ls lt one p.1 q.1)
+  told s t ls lt one (inr (inr p)) (inr (inl q)) =
+      (λ h. absurd (p.0 (h ∙ q.0)), λ h. absurd (differ t s lt ls (sym one) q.1 p.1 (λ a b. ((h a b).1, (h a b).0))))
+  told s t ls lt one (inr (inr p)) (inr (inr q)) = equal_lists rel l labelled of s t _ _ p.2 q.2
+
+  -- The split signature of a state is empty if the signature of the state has not changed since the last round, and
+  -- otherwise it is the new signature. Suppose that blocks are split by split signatures: two states share a block
+  -- after the split if and only if they shared a block before the split and have equal split signatures. Then two
+  -- states share a block after the split if and only if they shared a block before the split and have equal signatures
+  -- (`Split`).
+  pub split_by_split_signatures : ((s : ℕ) → s < l.states → Each s) → (next : ℕ → ℕ)
+      → ((s t : ℕ) → s < l.states → t < l.states
+      → (next s ≡ next t) ↔ ((slice_index of s ≡ slice_index of t) × (shown s ≡ shown t)))
+      → Split rel (system_of l) (slice_index of) next
+  split_by_split_signatures each next split s t ls lt =
+      let tells = λ (one : slice_index of s ≡ slice_index of t). told s t ls lt one (each s ls) (each t lt) in
+      grind (arith, split s t ls lt, tells)
+
+-- Suppose that the blocks result from splitting the blocks of the last round (`Follows`), and that the branching
+-- signature of a state is empty. Then the branching signature of this state in the last round was empty, too.
+empty_was : (l : Grouped) → IsLts l → (old : Option (List ℕ)) (of : List ℕ) (low : ℕ)
+    → Follows Branching l old of low → (s : ℕ) → s < l.states → HasEmptySignature (system_of l) (slice_index of) s
+    → (a : List ℕ) (b : ℕ) → ¬ Was Branching l old s a b
+empty_was l lts None of low was s ls none = λ a b h. h
+empty_was l lts (Some old) of low was s ls none =
+    empty_before (system_of l) lts.system (slice_index old) (slice_index of)
+    (λ s t ls lt e. ((was.split s t ls lt).0 e).0) s ls none
+
+-- Let r be the data of a round (`Signed`): the blocks, the active states (the states that the round processes), the
+-- signatures, and the predecessor index. The following lemmas assume that r is ready for computing branching signatures
+-- (`IsReadyToSign`).
+module _ (l : Grouped) (old : Option (List ℕ)) (r : Signed) (ready : IsReadyToSign Branching l old r) where
+  abbrev of : List ℕ
+  of = r.blocks.block_ids
+
+  abbrev active : List ℕ
+  active = r.blocks.active
+
+  -- The cache contains a signature ID for each state. Suppose that the state s is neither active (processed by the
+  -- round) nor in a singleton block (a block with one state). Then the cache contains the ID of the present signature
+  -- of s.
+  active_or_cached : (s : ℕ) → s < l.states → IsMember active s ⊎ IsSingleton of s
+      ⊎ IsSignature Branching l of s (list_of r.signatures r.cached s)
+  active_or_cached s h = elim (ready.others s h) [
+    | inl one ↦ inl one
+    | inr (inl alone) ↦ inr (inl alone)
+    | inr (inr same) ↦ inr (⊎_map (λ alone. alone) (λ list. record {
+      exactly = λ k b. (
+        λ c. let has = (list.1 k b).0 c in (has.0, (same (text_of l.labels k) b).1 has.1),
+        λ has. (list.1 k b).1 (has.0, (same (text_of l.labels k) b).0 has.1),
+      );
+      ascending = list.0;
+    }) ((ready.cached refl).each s h))
+  ]
+
+  -- The cache contains a signature ID for each state. Suppose that the state s shares a block with an active state,
+  -- which is a state that the round processes. Then s is active, too, or the cache contains the ID of the present
+  -- signature of s.
+  pub cached_beside : CachesBeside l of active r.signatures r.cached
+  cached_beside = let keeps = ready.cached refl in record {
+    states = keeps.states;
+    each = keeps.signature_ids;
+    beside = λ s t hs ht same one. grind (arith, common_steps, active_or_cached s hs, ready.states);
+  }
+
+  -- The following lemmas assume that the signatures of the active states (the states that the round processes) have
+  -- been computed. For each state, `cached` contains the ID of the signature that is cached for the next round, and
+  -- `signature_ids` contains the ID of the split signature. The split signature is empty if the signature of the state
+  -- has not changed since the last round, and otherwise it is the new signature.
+  module _ (signatures : List (List (ℕ × ℕ))) (cached signature_ids : List ℕ) (are : AreLists signatures)
+      (signs : SignsActive l of active r.signatures signatures r.cached cached signature_ids)
+      (have : length signature_ids ≡ l.states) (none : InactiveHaveNone active signature_ids) where
+    within : (s : ℕ) → s < l.states → slice_index r.cached s < length r.signatures
+    within s h = let keeps = ready.cached refl in keeps.signature_ids s 0 (omega (arith, h, keeps.states))
+
+    -- The cache contains the ID of an interned signature for each state. When the round interns more signatures, each
+    -- ID in the cache is still the ID of the same signature.
+    same_list : (s : ℕ) → s < l.states → list_at signatures (slice_index r.cached s) ≡ list_of r.signatures r.cached s
+    same_list s h = signs.grow.same (slice_index r.cached s) (within s h)
+
+    -- In the following lemmas, s is an active state, which is a state that the round processes. The lemmas assume that,
+    -- before the signatures were computed, the cached ID of s was the ID of the signature that s had in the last round.
+    module _ (lts : IsLts l) (s : ℕ) (h : s < l.states) (one : IsMember active s)
+        (was : IsListOf l (Was Branching l old s) (list_of r.signatures r.cached s)) where
+      labelled : Labelled l
+      labelled = labels_have_ids l lts
+
+      -- Let s be an active state, which is a state that the round processes. Suppose that the round has computed the
+      -- signature of s, and has stored the ID of this signature in the cache. Then the cached ID of s is the same as
+      -- before if and only if the signature of s has not changed since the last round.
+      unchanged : (slice_index r.cached s ≡ slice_index cached s) ↔ IsAsBefore Branching l old of s
+      unchanged =
+          let told = equal_represented l _ _ (list_of signatures cached s) (list_of r.signatures r.cached s)
+          (label_id_of l labelled Branching (Some of) s) (label_id_of l labelled Branching old s)
+          ((signs.signed s one).ascending, (signs.signed s one).exactly) was in
+          let apart = are.different (slice_index r.cached s) (slice_index cached s) in
+          grind (arith, told, same_list s h, apart, within s h, signs.grow.longer, signs.each s 0, signs.states)
+
+      -- Suppose that the signature of the active state s (a state that the round processes) is empty in this round.
+      -- Then the signature of s was empty in the last round, too.
+      empty_still : list_of signatures cached s ≡ [] → IsAsBefore Branching l old of s
+      empty_still nil a b =
+          let shows : HasEmptySignature (system_of l) (slice_index of) s = λ a b can.
+          let (k, number) = label_id_of l labelled Branching (Some of) s a b can in
+          let c = ((signs.signed s one).exactly k b).1 (number.below, rw number.text can) in
+          omega (arith, (rw nil at c).1) in
+          (λ can. absurd (shows a b can), λ can. absurd (empty_was l lts old of _ ready.follows s h shows a b can))
+
+      -- The split signature of a state is empty if the signature of the state has not changed since the last round, and
+      -- otherwise it is the new signature. For the active state s, which is a state that the round processes, the list
+      -- `signature_ids` contains the ID of the split signature of s (`IsSplitSignature`).
+      split_id : IsSplitSignature Branching l old of s (list_of signatures signature_ids s)
+      split_id = elim (signs.changed s one) [
+        | inl (is, zero) ↦ inl (ap (list_at signatures) zero ∙ are.first, unchanged.0 is)
+        | inr (other, now) ↦
+            rw now (inr (
+              λ nil. other (unchanged.1 (empty_still nil)),
+              λ is. other (unchanged.1 is),
+              signs.signed s one,
+            ))
+      ]
+
+    -- Let s be a state that is not in a singleton block (a block with one state). After the round has computed the
+    -- signatures, the cache contains the ID of the present signature of s.
+    cached_now : (s : ℕ) → s < l.states → IsSingleton of s ⊎ IsSignature Branching l of s (list_of signatures cached s)
+    cached_now s h = grind (arith, common_steps, signs.still s, active_or_cached s h, signs.signed s, same_list s h)
+
+    -- The split signature of a state is empty if the signature of the state has not changed since the last round, and
+    -- otherwise it is the new signature. After the signatures have been computed, `signature_ids` contains the ID of
+    -- the split signature of each state that is not in a singleton block. The cache contains the ID of the present
+    -- signature of each such state (`SignsEach`).
+    pub branching_signs : IsLts l → SignsEach Branching l old
+        (record r { signatures = signatures; cached = cached; signature_ids = signature_ids })
+    branching_signs lts = let keeps = ready.cached refl in record {
+      each = λ s h. let given = λ (one : IsMember active s). ⊎_map (λ x. x) (split_id lts s h one) (keeps.each s h) in
+          grind (arith, ready.others s h, none s, given, have, are.first);
+      first = λ none s one. grind
+          (arith, common_steps, signs.changed s one, signs.signed s one, ready.empty refl none s);
+      cached = λ branching. record {
+        states = signs.states;
+        signature_ids = signs.each;
+        each = λ s h. ⊎_map (λ alone. alone) (λ is. (is.ascending, is.exactly)) (cached_now s h);
+      };
+    }

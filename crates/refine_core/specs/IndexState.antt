@@ -1,32 +1,36 @@
 -- The data of a round (`Signed`) includes the blocks, the active states, the signatures, and the predecessor index,
 -- which stores the transitions that lead to each state. A round processes only the active states. This file defines
 -- what must hold for the data of a round at three times: when the round begins, when it computes signatures, and when
--- it has split the blocks. The definitions make sure that states that are not active need not be processed.
-use Rattle.std.specs.Prelude.{◌≡◌, ◌⊎◌, ℕ, ◌<◌, List, [], ◌∷◌, length, slice_index, Option, None, Some, IfSome}
+-- it has split the blocks. The definitions make sure that states that are not active need not be processed. The last
+-- definitions of this file are about one round as a whole, and about the blocks that several rounds make.
+use Rattle.std.specs.Prelude.{◌≡◌, ◌⊎◌, ◌↔◌, ℕ, ◌*◌, ◌^◌, ◌<◌, ◌≤◌, List, [], ◌∷◌, length, slice_index}
+use Rattle.std.specs.Prelude.{Option, None, Some, IfSome}
 use Rattle.theory.specs.declared.relation.Relation.{Relation}
 use Rattle.theory.specs.declared.relation.Relation.TheVariants.{Branching}
-use Rattle.lts.specs.Lts.{Grouped, row_of}
-use Rattle.partition.specs.Splitting.{IsSingleton}
+use Rattle.theory.specs.System.{System}
+use Rattle.theory.specs.Blocks.{Split, SameBlocks, OneBlock, Underway}
+use Rattle.lts.specs.Meter.{Counts, Costs}
+use Rattle.lts.specs.Lts.{Grouped, row_of, system_of}
+use Rattle.partition.specs.Splitting.{IsSingleton, Splits}
 use Rattle.partition.specs.Blocks.{RoundBlocks, IsMember}
+use Rattle.partition.specs.Sizes.{HalvesBlocks}
+use Rattle.partition.specs.Renumberings.{WereHalved, renumberings}
 use Rattle.inert.specs.Signed.{IsSignature}
-use Rattle.refine_core.specs.Signatures.{Signed, list_of, HasNoSignatures}
-use Rattle.refine_core.specs.Shown.{Follows, IsAsBefore, IsSplitSignature}
-use Rattle.refine_core.specs.Cached.{CachesIds}
+use Rattle.refine_core.specs.Signatures.{Signed, list_of, HasNoSignatures, Follows, IsAsBefore, IsSplitSignature}
+use Rattle.refine_core.specs.Signatures.{CachesIds}
 use Rattle.refine_core.specs.Index.{HasIndex, SearchIsComplete}
+
+-- Let R be a condition on states. `OthersSatisfy` holds if each state is active (processed by the round), is in a
+-- singleton block (a block with one state), or satisfies R. The argument `states` is the number of states. The list
+-- `blocks` contains the block ID of each state, and the list `active` contains the active states.
+abbrev pub OthersSatisfy : (ℕ → Type 0) → ℕ → List ℕ → List ℕ → Type 0
+OthersSatisfy R states blocks active = (s : ℕ) → s < states → IsMember active s ⊎ IsSingleton blocks s ⊎ R s
 
 -- `AreAllActive` holds if each state is active (processed by the round), is in a singleton block (a block with one
 -- state), or has no outgoing transition. The list `blocks` contains the block ID of each state, and the list `active`
 -- contains the active states.
 abbrev pub AreAllActive : Grouped → List ℕ → List ℕ → Type 0
-AreAllActive l blocks active = (s : ℕ) → s < l.states → IsMember active s ⊎ IsSingleton blocks s
-    ⊎ (row_of s l.places ≡ [])
-
--- `OthersKeepSignatures` holds if each state is active (processed by the round), is in a singleton block (a block with
--- one state), or has the same signature as in the last round (`IsAsBefore`). The record p contains the blocks and the
--- active states of this round. The argument `old` contains the block IDs of all states in the last round.
-abbrev pub OthersKeepSignatures : Relation → Grouped → Option (List ℕ) → RoundBlocks → Type 0
-OthersKeepSignatures rel l old p = (s : ℕ) → s < l.states → IsMember p.active s ⊎ IsSingleton p.block_ids s
-    ⊎ IsAsBefore rel l old p.block_ids s
+AreAllActive l = OthersSatisfy (λ s. row_of s l.places ≡ []) l.states
 
 -- `Awaits` holds if r, the data of a round (`Signed`), is ready for a new round. The data r must contain the block ID
 -- of each state of the system `l`. The field `old` contains the block IDs of all states in the last round, or is `None`
@@ -46,15 +50,17 @@ pub record Awaits (rel : Relation) (l : Grouped) (r : Signed) : Type 0 where
       × (rel ≡ Branching → CachesIds l r.blocks.block_ids r.signatures r.cached old)
 
 -- `IsReadyToSign` holds if r, the data of a round (`Signed`), is ready for computing the signatures of the active
--- states, which are the states that the round processes. The argument `old` contains the block IDs of all states in the
--- last round, and the blocks of r must result from splitting the blocks of the last round (`Follows`). Each state that
--- is neither active nor in a singleton block must have the same signature as in the last round. For branching
--- bisimilarity, the signatures of the last round must be cached (`CachesIds`). If `old` is `None`, no round has run
--- yet, or all signatures have been discarded since the last round. If `old` is `None`, the signature of each state in
--- the last round is taken to be empty. In this case, all blocks must count as new for strong bisimilarity, and the
--- cached signature of each state must be empty for branching bisimilarity.
+-- states, which are the states that the round processes. The data r must contain the block ID of each state of the
+-- system `l`. The argument `old` contains the block IDs of all states in the last round, and the blocks of r must
+-- result from splitting the blocks of the last round (`Follows`). Each state that is neither active nor in a singleton
+-- block must have the same signature as in the last round. For branching bisimilarity, the signatures of the last round
+-- must be cached (`CachesIds`). If `old` is `None`, no round has run yet, or all signatures have been discarded since
+-- the last round. If `old` is `None`, the signature of each state in the last round is taken to be empty. In this case,
+-- all blocks must count as new for strong bisimilarity, and the cached signature of each state must be empty for
+-- branching bisimilarity.
 pub record IsReadyToSign (rel : Relation) (l : Grouped) (old : Option (List ℕ)) (r : Signed) : Type 0 where
-  pub others : OthersKeepSignatures rel l old r.blocks
+  pub states : length r.blocks.block_ids ≡ l.states
+  pub others : OthersSatisfy (IsAsBefore rel l old r.blocks.block_ids) l.states r.blocks.block_ids r.blocks.active
   pub follows : Follows rel l old r.blocks.block_ids r.blocks.first_new
   pub cached : rel ≡ Branching → CachesIds l r.blocks.block_ids r.signatures r.cached old
   pub empty : rel ≡ Branching → old ≡ None → (s : ℕ) → slice_index r.cached s ≡ 0
@@ -73,14 +79,13 @@ pub record IsBegun (rel : Relation) (l : Grouped) (p : RoundBlocks) (r : Signed)
   pub ready : IsReadyToSign rel l old r
 
 -- `MayBuildIndex` is about the step of a round that may build the predecessor index. The data of the round is p before
--- the step, and r after the step. The step must not have changed the blocks and the cached signature IDs. If r contains
--- no index, the step must not have changed any data. If r contains an index, it must be an index of the system `l`
--- (`HasIndex`), and the step must have discarded all interned signatures except the empty signature.
+-- the step, and r after the step. The step must not have changed the blocks and the cached signature IDs. Either the
+-- step must not have changed any data, or r must contain an index, and the step must have discarded all interned
+-- signatures except the empty signature. If r contains an index, it must be an index of the system `l` (`HasIndex`).
 pub record MayBuildIndex (rel : Relation) (l : Grouped) (p r : Signed) : Type 0 where
   pub blocks : r.blocks ≡ p.blocks
   pub cached : r.cached ≡ p.cached
-  pub unbuilt : r.index ≡ None → r ≡ p
-  pub built : ¬ (r.index ≡ None) → r.signatures ≡ [] ∷ []
+  pub built : (r ≡ p) ⊎ (¬ (r.index ≡ None) × (r.signatures ≡ [] ∷ []))
   pub index : IfSome r.index (HasIndex rel l r.blocks.block_ids)
 
 -- `Restarts` is about the step of a round that discards all signatures of earlier rounds, and then activates all states
@@ -132,3 +137,49 @@ pub record SignsRound (rel : Relation) (l : Grouped) (p r : Signed) : Type 0 whe
   pub blocks : r.blocks ≡ p.blocks
   pub index : r.index ≡ p.index
   pub signs : (old : Option (List ℕ)) → IsReadyToSign rel l old p → SignsEach rel l old r
+
+-- `IsNextRound` holds if q is the data after one round that started with the block IDs `of`. Splitting the blocks `of`
+-- by signatures must result in the blocks of q (`Split`). Before the round, there were `count` blocks, whose IDs were
+-- less than `count`. So a block of q is new if its ID is at least `count`. Each state must keep its block ID, or be in
+-- a new block (`Splits`). Each new block must contain at most half of the states of the old block that it comes from
+-- (`HalvesBlocks`). The data q must be ready for the next round (`Awaits`). The number of blocks must be the same
+-- before and after the round if and only if the partition is the same before and after the round.
+pub record IsNextRound (rel : Relation) (l : Grouped) (of : List ℕ) (count : ℕ) (q : Signed) : Type 0 where
+  pub split : Split rel (system_of l) (slice_index of) (slice_index q.blocks.block_ids)
+  pub parts : (ids : List ℕ) × Splits of count (slice_index ids) q.blocks.block_ids q.blocks.count
+  pub halves : HalvesBlocks of count q.blocks.block_ids
+  pub awaits : Awaits rel l q
+  pub same : (q.blocks.count ≡ count) ↔ SameBlocks (system_of l) (slice_index of) (slice_index q.blocks.block_ids)
+
+-- `AreRounds` holds if a sequence of splits leads from the partition with only one block to the partition `now`. For
+-- each split, the list `past` contains the partition before this split. The first element of `past` is the partition
+-- before the last split.
+abbrev pub AreRounds : Relation → System → List ℕ → List (List ℕ) → Type 0
+AreRounds rel A now [] = OneBlock A (slice_index now)
+AreRounds rel A now (old ∷ past) = Split rel A (slice_index old) (slice_index now) × AreRounds rel A old past
+
+-- `RenumbersFew` holds if there is a sequence of splits with both of the following properties. First, the sequence
+-- leads from the partition with only one block to a partition with the same blocks as `blocks`, but possibly with other
+-- block IDs. Second, the block ID of each state changes at most log2 n times during the sequence, where n is the number
+-- of states.
+pub record RenumbersFew (rel : Relation) (A : System) (blocks : List ℕ) : Type 0 where
+  pub last : List ℕ
+  pub past : List (List ℕ)
+  pub rounds : AreRounds rel A last past
+  pub same : SameBlocks A (slice_index last) (slice_index blocks)
+  pub few : (s : ℕ) → s < A.states → 2 ^ renumberings last past s ≤ A.states
+
+-- `Made` holds if a sequence of rounds has led from the partition with only one block to the partition `blocks`. Each
+-- of these rounds must have split at least one block, and there must be fewer rounds than states. After each round, no
+-- state may be in a larger block than before this round. If the block ID of a state changes in a round, the new block
+-- of the state must have at most half the size of the old block (`WereHalved`). The meter must have counted each round
+-- of the sequence. A visit is a read of a transition that the meter counts. The number of visits in all these rounds
+-- together must be the number of the rounds times the number of transitions. The meter had the counts `old` before the
+-- first round, and has the counts `at` after the last round.
+pub record Made (rel : Relation) (l : Grouped) (old at : Counts) (blocks : List ℕ) : Type 0 where
+  pub rounds : ℕ
+  pub fewer : rounds < l.states
+  pub past : List (List ℕ)
+  pub were : AreRounds rel (system_of l) blocks past × WereHalved blocks past
+  pub underway : Underway rel (system_of l) rounds (slice_index blocks)
+  pub costs : Costs old at rounds (rounds * length l.places) (rounds * length l.places)

@@ -24,7 +24,6 @@ impl Signing for Branching {
     }
 
     fn sign<M: Meter>(l: &Lts<M>, round: SignedBlocks, m: &mut M) -> Result<SignedBlocks, Memory> {
-        lts::rows_are_steps();
         l.invariants();
         let mut round = round;
         round.invariants();

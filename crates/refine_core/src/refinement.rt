@@ -5,8 +5,7 @@ ghost use Rattle.theory.specs.Blocks.{Turns, EachTwo};
 ghost use Rattle.lts.specs.Meter.{HasRoomFor, Costs, CostsUpTo};
 ghost use Rattle.lts.specs.Lts.{system_of};
 ghost use Rattle.partition.specs.Partition.{IsSomePartition};
-ghost use Rattle.refine_core.specs.IndexState.{Awaits};
-ghost use Rattle.refine_core.specs.Rounds.{IsNextRound, RenumbersFew};
+ghost use Rattle.refine_core.specs.IndexState.{Awaits, IsNextRound, RenumbersFew};
 
 use crate::signed_blocks::{SignedBlocks, splittable_states};
 use crate::signing::{Signing, begin_round, sign_and_visit_rest};
@@ -111,7 +110,6 @@ fn next_round<S: Signing, M: Meter>(
     ensures err { OnErr result
         (CostsUpTo (M.counted m.old) (M.counted m.new) 1 (length l.now.places)) }
 {
-    lts::rows_are_steps();
     l.invariants();
     m.start_round();
     let before = m.visits();

@@ -183,7 +183,7 @@ impl SignedBlocks {
     {
         self.signatures.invariants();
         let states = self.blocks.block_ids().len() as u32;
-        forget(&mut self.signature_ids, self.blocks.active());
+        forget(&mut self.signature_ids, &self.blocks);
         self.signatures.clear();
         self.signer.forget(states)?;
         Ok(self)
@@ -211,7 +211,7 @@ impl SignedBlocks {
         if !self.needs_index(l) {
             return Ok(self);
         }
-        forget(&mut self.signature_ids, self.blocks.active());
+        forget(&mut self.signature_ids, &self.blocks);
         // The interner can still hold the memory of many signatures of earlier rounds. This memory is freed before
         // memory for the index is allocated.
         self.signatures = Interner::new(self.alloc, 1)?;
@@ -296,7 +296,7 @@ impl SignedBlocks {
         };
         let (predecessors, active) = predecessors.search_back(&search, &mut self.visited, m)?;
         self.signatures.invariants();
-        forget(&mut self.signature_ids, self.blocks.active());
+        forget(&mut self.signature_ids, &self.blocks);
         let blocks = self.blocks.with_active(active);
         Ok(SignedBlocks {
             blocks,
@@ -371,15 +371,16 @@ pub(crate) fn splittable_states<M: Meter>(
     Ok(active)
 }
 
-/// Sets the signature ID of each state in `active` to the ID of the empty signature. For all other states,
+/// Sets the signature ID of each active state of `blocks` to the ID of the empty signature. For all other states,
 /// `signature_ids` must already contain the ID of the empty signature.
-fn forget(signature_ids: &mut Vec<u32>, active: &[u32])
-    requires active { AreActive (length signature_ids.old.items) active.now }
-    requires none { InactiveHaveNone active.now signature_ids.old.items }
+fn forget(signature_ids: &mut Vec<u32>, blocks: &Blocks)
+    requires states { length signature_ids.old.items ≡ length blocks.now.block_ids }
+    requires none { InactiveHaveNone blocks.now.active signature_ids.old.items }
     ensures states { length signature_ids.new.items ≡ length signature_ids.old.items }
     ensures empty { (s : ℕ) → s < length signature_ids.old.items
         → slice_index signature_ids.new.items s ≡ 0 }
 {
+    let active = blocks.active();
     for i in 0..active.len() {
         signature_ids[active[i] as usize] = EMPTY;
     }

@@ -40,7 +40,6 @@ pub trait Signing {
     /// transition that the meter counts. If a transition was already visited in this round, the method may read the
     /// transition again, but the meter does not count this read.
     fn sign<M: Meter>(l: &Lts<M>, round: SignedBlocks, m: &mut M) -> Result<SignedBlocks, Memory>
-        requires states { length round.blocks.block_ids ≡ l.now.states }
         requires ready { (old : Option (List ℕ)) × IsReadyToSign relation l.now old round }
         requires visited { AreVisited l.now.places round.visited }
         requires room { HasRoomFor (M.counted m.old) 0
@@ -94,7 +93,6 @@ pub(crate) fn sign_and_visit_rest<S: Signing, M: Meter>(
     before: u128,
     m: &mut M,
 ) -> Result<SignedBlocks, Memory>
-    requires states { length round.blocks.block_ids ≡ l.now.states }
     requires ready { (old : Option (List ℕ)) × IsReadyToSign S.relation l.now old round }
     requires visited { let start = record (M.counted m.old) { visits = before } in
         HasVisited l.now.places start (M.counted m.old) round.visited }
@@ -137,7 +135,6 @@ pub(crate) fn begin_round<S: Signing, M: Meter>(
     // Always
     ensures cost { Costs (M.counted m.old) (M.counted m.new) 0 0 (length l.now.places) }
 {
-    lts::rows_are_steps();
     l.invariants();
     let mut round = round.clear_visited();
     if round.signatures.len() > round.most_signatures {

@@ -10,8 +10,7 @@ ghost use Rattle.lts.specs.Visited.{remaining_of};
 ghost use Rattle.signatures.specs.Lists.{list_at, Grow};
 ghost use Rattle.partition.specs.Blocks.{IsMember, HaveSignatureIds};
 ghost use Rattle.inert.specs.Signed.{pair_under};
-ghost use Rattle.refine_core.specs.Signatures.{list_of, HaveSignatures};
-ghost use Rattle.refine_core.specs.Shown.{HasNewBlock, IsStrongSplitSignature};
+ghost use Rattle.refine_core.specs.Signatures.{list_of, HaveSignatures, HasNewBlock, IsStrongSplitSignature};
 ghost use Rattle.refine_core.specs.Index.{ReadsRows};
 
 use crate::signed_blocks::SignedBlocks;

@@ -1,7 +1,7 @@
 use Rattle.std.proofs.Common.{arith}
 use Rattle.std.proofs.lemmas.Result.{IfOk-weaker}
 use Rattle.lts.specs.Lts.{system_of}
-use Rattle.refine_core.specs.Rounds.{RenumbersFew}
+use Rattle.refine_core.specs.IndexState.{RenumbersFew}
 use Rattle.refine_core.proofs.refinement.refine.Goals as goal
 
 pub returns-clause-bisimilar : goal.returns-clause-bisimilar

@@ -4,7 +4,7 @@ use Rattle.std.proofs.Math.Nat.{suc-mul, add-mul}
 use Rattle.theory.specs.Blocks.{Turns}
 use Rattle.lts.specs.Meter.{Costs}
 use Rattle.lts.specs.Lts.{system_of}
-use Rattle.refine_core.specs.Rounds.{IsNextRound, AreRounds}
+use Rattle.refine_core.specs.IndexState.{IsNextRound, AreRounds}
 use Rattle.refine_core.proofs.Spending.{on_err_from}
 use Rattle.partition.specs.Blocks.{RoundBlocks}
 use Rattle.partition.specs.Renumberings.{WereHalved}

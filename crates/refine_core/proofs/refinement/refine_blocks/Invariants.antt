@@ -1,6 +1,5 @@
 use Rattle.std.proofs.Common.{◌-◌}
-use Rattle.refine_core.specs.IndexState.{Awaits}
-use Rattle.refine_core.specs.Rounds.{Made}
+use Rattle.refine_core.specs.IndexState.{Awaits, Made}
 use Rattle.refine_core.proofs.refinement.refine_blocks.Given as goal
 
 abbrev pub invariant-loop-before : goal.invariant-loop-before

@@ -1,54 +1,32 @@
-use Rattle.std.proofs.Common.{◌∙◌, length, sym, ap, subst, None, IfOk}
+use Rattle.std.proofs.Common.{◌∙◌, sym, ap}
 use Rattle.std.proofs.lemmas.Result.{IfOk-weaker}
-use Rattle.refine_core.specs.IndexState.{HasSearched}
 use Rattle.refine_core.proofs.IndexStates.{begun_unindexed, none_visited, restarted, searched}
 use Rattle.refine_core.proofs.signing.begin_round.Goals as goal
 
 pub returns-then-len-round-clause-begun : goal.returns-then-len-round-clause-begun
 returns-then-len-round-clause-begun g c = let l = c.args.l.now in IfOk-weaker c.activate_all.result _ _
-    (λ r again. restarted g.S.Signing.relation l (c.rows_are_steps.ensures.steps l) c.args.round r
-    c.requires.ready_for_round again) (rw c.clear_visited-round.ensures at c.activate_all.ensures)
+    (λ r. restarted g.S.Signing.relation l c.args.round r c.requires.ready_for_round)
+    (rw c.clear_visited-round.ensures at c.activate_all.ensures)
 
 pub returns-then-len-round-clause-visited : goal.returns-then-len-round-clause-visited
 returns-then-len-round-clause-visited g c = IfOk-weaker c.activate_all.result _ _
     (λ r again. none_visited _ _ _ (again.visited ∙ ap (λ r. r.visited) c.clear_visited-round.ensures))
     c.activate_all.ensures
 
-pub begin_index-requires-clause-states : goal.begin_index-requires-clause-states
-begin_index-requires-clause-states g c = let is = c.round.view_is ∙ c.clear_visited-round.ensures in
-    ap (λ b. length b.block_ids) (c.in_ok-round.ensures.same.0 ∙ ap (λ r. r.blocks) is)
-    ∙ c.requires.ready_for_round.states
-
-pub begin_index-requires-clause-none : goal.begin_index-requires-clause-none
-begin_index-requires-clause-none g c =
-    c.in_ok-round.ensures.same.2 ∙ ap (λ r. r.visited) (c.round.view_is ∙ c.clear_visited-round.ensures)
-
 -- Suppose that there was no predecessor index, and that the call of `begin_index`, which may build the index, has
 -- succeeded. Then the data of the round is ready for computing signatures (`IsBegun`).
 pub returns-in_default-clause-begun : goal.returns-in_default-clause-begun
-returns-in_default-clause-begun g c = let l = c.args.l.now in
-    let is = c.round.view_is ∙ c.clear_visited-round.ensures in
-    let none = ap (λ r. r.index) (sym is) ∙ sym c.take.ensures.value ∙ c.in_default.is in
-    let begun = begun_unindexed g.S.Signing.relation l (c.rows_are_steps.ensures.steps l) c.args.round
-    c.in_ok-round.round in
-    IfOk-weaker c.begin_index.result _ _
-    (λ r by. begun r none c.requires.ready_for_round (c.in_ok-round.ensures.same.0 ∙ ap (λ r. r.blocks) is)
-    c.in_ok-round.ensures.discarded by) (rw c.signed_relation-relation.ensures at c.begin_index.ensures.begins)
-
-pub find_active-requires-clause-index : goal.find_active-requires-clause-index
-find_active-requires-clause-index g c =
-    let is = c.round.view_is ∙ c.clear_visited-round.ensures in
-    let some = ap (λ r. r.index) (sym is) ∙ sym c.take.ensures.value ∙ c.in-Some.is in
-    rw (c.signed_relation-relation.ensures, ap (λ r. r.blocks.block_ids) is)
-    (rw some at c.requires.ready_for_round.index)
+returns-in_default-clause-begun g c = IfOk-weaker c.begin_index.result _ _
+    (λ r. begun_unindexed g.S.Signing.relation c.args.l.now c.args.round _ c.in_ok-round.round r
+    (c.round.view_is ∙ c.clear_visited-round.ensures) (sym c.take.ensures.value ∙ c.in_default.is)
+    c.requires.ready_for_round c.in_ok-round.ensures.same.0 c.in_ok-round.ensures.discarded)
+    (rw c.signed_relation-relation.ensures at c.begin_index.ensures.begins)
 
 -- Suppose that there was a predecessor index, and that the call of `find_active`, which searches the index, has
 -- succeeded. Then the data of the round is ready for computing signatures (`IsBegun`).
 pub returns-clause-begun : goal.returns-clause-begun
-returns-clause-begun g c = let rel = g.S.Signing.relation in let l = c.args.l.now in
-    let is = c.round.view_is ∙ c.clear_visited-round.ensures in
-    let some = ap (λ r. r.index) (sym is) ∙ sym c.take.ensures.value ∙ c.in-Some.is in
-    IfOk-weaker c.find_active.result _ _
-    (λ r by. searched rel l c.invariants.ensures c.args.round r _ some c.requires.ready_for_round by)
-    (subst (λ r. IfOk c.find_active.result (HasSearched rel l (record r { index = None }))) is
-    (rw (c.take.ensures.after, c.signed_relation-relation.ensures) at c.find_active.ensures.found))
+returns-clause-begun g c = IfOk-weaker c.find_active.result _ _
+    (λ r. searched g.S.Signing.relation c.args.l.now c.invariants.ensures c.args.round _ r _
+    (c.round.view_is ∙ c.clear_visited-round.ensures) (sym c.take.ensures.value ∙ c.in-Some.is)
+    c.requires.ready_for_round)
+    (rw (c.take.ensures.after, c.signed_relation-relation.ensures) at c.find_active.ensures.found)

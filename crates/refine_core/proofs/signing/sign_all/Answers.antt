@@ -1,7 +1,6 @@
 use Rattle.std.proofs.Common.{◌≡◌, ◌∙◌, None, inl, refl}
 use Rattle.refine_core.specs.IndexState.{IsReadyToSign}
-use Rattle.refine_core.proofs.IndexStates.{none_visited}
-use Rattle.refine_core.proofs.CachedSignatures.{ready_discarded}
+use Rattle.refine_core.proofs.IndexStates.{none_visited, ready_discarded}
 use Rattle.refine_core.proofs.signing.sign_all.Given.{Over}
 use Rattle.refine_core.proofs.signing.sign_all.Goals as goal
 use Rattle.refine_core.proofs.signing.sign_all.Goals.{In_ok-round}

@@ -2,7 +2,7 @@ use Rattle.std.proofs.Common.{◌≡◌, ◌∙◌}
 use Rattle.signatures.specs.Lists.{list_at}
 use Rattle.std.proofs.lemmas.Bool.{iff_false}
 use Rattle.std.proofs.lemmas.Result.{IfOk-weaker}
-use Rattle.refine_core.proofs.ActiveStates.{row_affected, row_unaffected}
+use Rattle.refine_core.proofs.StrongSignatures.{row_affected, row_unaffected}
 use Rattle.refine_core.proofs.strong.intern_signature.Goals as goal
 
 pub returns-then-not-branch-clause-put : goal.returns-then-not-branch-clause-put

@@ -1,6 +1,7 @@
-use Rattle.std.proofs.Common.{◌≡◌, ◌∙◌, ℕ, ◌+◌, ◌-◌, ◌*◌, ◌/◌, ◌%◌, ◌<◌, ap, refl, arith, rules}
+use Rattle.std.proofs.Common.{◌≡◌, ◌∙◌, ℕ, ◌+◌, ◌-◌, ◌*◌, ◌/◌, ◌%◌, ◌<◌, ap, arith, rules}
+use Rattle.std.proofs.lemmas.Grind.{common_steps}
 use Rattle.std.proofs.lemmas.List.{take_all}
-use Rattle.refine_core.proofs.ActiveStates.{pairs_none, pairs_more}
+use Rattle.refine_core.proofs.StrongSignatures.{pairs_none, pairs_to}
 use Rattle.refine_core.proofs.strong.read.Goals as goal
 use Rattle.refine_core.proofs.strong.read.Goals.{then-end-start-eq1, else-end-start-eq1}
 
@@ -17,8 +18,8 @@ loop-k-init g c =
       | then-end-start-eq1 w ↦
           let row = c.rows_follow.ensures.inside places _ start end start c.row-start.ensures (omega arith)
           (omega (arith, w.if-end-start-eq1.true)) in
-          let pairs = pairs_more of places c.args.s start start k row w.k-is w.edge-only.ensures.label
-          w.edge-only.ensures.target none w.collect-affected.ensures.pairs in
+          let pairs : w.collect-affected.new.pairs.items ≡ pairs_to of places c.args.s start k =
+          grind (arith, common_steps, row, w.k-is, none, w.edge-only.ensures, w.collect-affected.ensures.pairs) in
           search (rules, ap (λ v. v.items) w.pairs-is ∙ pairs, twos (omega (arith, w.k-is, w.if-end-start-eq1.true)))
       | else-end-start-eq1 w ↦ search rules
     ]
@@ -31,15 +32,17 @@ loop-k-preserved g c =
     let k = c.loop-k.k in
     let more : k + 1 < c.row-start.result.1 = omega (arith, i.by_two.1, c.loop-k-test.true) in
     let row = λ (k : ℕ). c.rows_follow.ensures.inside places c.args.s _ _ k c.row-start.ensures in
-    let first = pairs_more of places c.args.s _ k (k + 1) (row k i.begun c.loop-k-test.true) refl
-    c.edge-first.ensures.label c.edge-first.ensures.target i.pairs c.collect-affected-in-loop-k.ensures.pairs in
+    let one = row k i.begun c.loop-k-test.true in
+    let two = row (k + 1) (omega (arith, i.begun)) more in
+    let first : c.collect-affected-in-loop-k.new.pairs.items ≡ pairs_to of places c.args.s c.row-start.result.0 (k + 1)
+    = grind (arith, common_steps, one, i.pairs, c.edge-first.ensures, c.collect-affected-in-loop-k.ensures.pairs) in
+    let added = c.collect-affected-in-loop-k-2.ensures in
     record {
       begun = omega (arith, i.begun);
       by_two = (i.by_two.0 - 1, omega (arith, i.by_two.1, c.loop-k-test.true));
       room = omega (arith, i.room);
-      pairs = pairs_more of places c.args.s _ (k + 1) (k + 2) (row (k + 1) (omega (arith, i.begun)) more) (omega arith)
-          c.edge-second.ensures.label c.edge-second.ensures.target first c.collect-affected-in-loop-k-2.ensures.pairs;
-      affected = c.collect-affected-in-loop-k-2.ensures.affected;
+      pairs = grind (arith, common_steps, two, first, c.edge-second.ensures, added.pairs);
+      affected = added.affected;
       visits = search rules;
     }
 

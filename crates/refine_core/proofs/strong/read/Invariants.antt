@@ -1,8 +1,8 @@
 use Rattle.std.proofs.Common.{◌≡◌, ◌↔◌, ℕ, ◌+◌, ◌-◌, ◌*◌, ◌≤◌, IsTrue}
 use Rattle.std.specs.Vec.{vec_len, vec_capacity}
 use Rattle.lts.specs.Meter.{Costs}
-use Rattle.refine_core.specs.Shown.{HasNewBlock}
-use Rattle.refine_core.proofs.ActiveStates.{pairs_to}
+use Rattle.refine_core.specs.Signatures.{HasNewBlock}
+use Rattle.refine_core.proofs.StrongSignatures.{pairs_to}
 use Rattle.refine_core.proofs.strong.read.Given as goal
 
 abbrev pub invariant-loop-k : goal.invariant-loop-k

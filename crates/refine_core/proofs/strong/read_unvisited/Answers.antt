@@ -1,8 +1,9 @@
-use Rattle.std.proofs.Common.{◌<◌, ◌≤◌, refl, rules, arith}
+use Rattle.std.proofs.Common.{◌<◌, ◌≤◌, rules, arith}
+use Rattle.std.proofs.lemmas.Grind.{common_steps}
 use Rattle.std.proofs.lemmas.List.{take_all}
 use Rattle.lts.specs.Visited.{price_between}
 use Rattle.lts.proofs.CallerLemmas.{row_left, price_none, price_first, price_split, price_one_more}
-use Rattle.refine_core.proofs.ActiveStates.{row_all, pairs_none, pairs_more}
+use Rattle.refine_core.proofs.StrongSignatures.{row_all, pairs_none}
 use Rattle.refine_core.proofs.strong.read_unvisited.Goals as goal
 
 pub read-requires-clause-room : goal.read-requires-clause-room
@@ -36,9 +37,7 @@ loop-k-preserved g c =
     (omega (arith, c.loop-k-test.true, c.loop-k.auto)) in
     record {
       room = omega (arith, i.room, c.collect-affected.ensures.room);
-      pairs = pairs_more c.args.under.now.block_ids.now places c.args.s start k _ row refl
-          c.edge-transition.ensures.label
-          c.edge-transition.ensures.target i.pairs c.collect-affected.ensures.pairs;
+      pairs = grind (arith, common_steps, row, i.pairs, c.edge-transition.ensures, c.collect-affected.ensures.pairs);
       affected = c.collect-affected.ensures.affected;
       visits = omega (arith, i.visits, c.edge-transition.ensures.visit, price_one_more c.args.visited.now start k from);
     }

@@ -1,9 +1,9 @@
 use Rattle.std.proofs.lemmas.List.{length-set, get_or_default}
-use Rattle.std.proofs.Common.{sym, ◌∙◌, ◌≡◌, ◌≤◌, rules, ◌+◌, ◌<◌, length, slice_index, subst, arith}
+use Rattle.std.proofs.Common.{sym, ◌∙◌, ◌≡◌, ◌≤◌, rules, ◌+◌, ◌<◌, length, slice_index, arith}
 use Rattle.lts.specs.Lts.{before, row_of}
 use Rattle.lts.specs.Visited.{remaining_of}
 use Rattle.lts.proofs.CallerLemmas.{before-mono, before-next, before-le}
-use Rattle.refine_core.proofs.ActiveStates.{signed_more, inactive_none_more}
+use Rattle.refine_core.proofs.StrongSignatures.{signed_more, inactive_none_more}
 use Rattle.refine_core.proofs.strong.sign_active.Goals as goal
 use Rattle.refine_core.proofs.strong.sign_active.Given.{Over}
 use Rattle.refine_core.proofs.strong.sign_active.Goals.{In-loop-i}
@@ -68,8 +68,7 @@ returns-clause-signature_ids g c =
     let inv = c.loop-i.invariant in
     let end : length c.args.active.now ≤ c.loop-i.i = omega (arith, c.loop-i-test.false, c.loop-i.auto.i-end) in
     record {
-      each = λ s d h. subst (λ x. x < length c.loop-i.signatures) (get_or_default _ s 0 d h)
-          (grind (arith, inv.none s h, inv.put, inv.some));
+      each = λ s d h. grind (arith, get_or_default _ s d 0 h, inv.none s h, inv.put, inv.some);
       states = inv.states ∙ sym c.requires.reads.states;
       none = inv.none;
     }

@@ -3,8 +3,8 @@ use Rattle.lts.specs.Meter.{Costs}
 use Rattle.lts.specs.Lts.{before}
 use Rattle.lts.specs.Visited.{remaining_of}
 use Rattle.partition.specs.Blocks.{InactiveHaveNone}
-use Rattle.refine_core.specs.Shown.{IsStrongSplitSignature}
-use Rattle.refine_core.proofs.ActiveStates.{HasGot}
+use Rattle.refine_core.specs.Signatures.{IsStrongSplitSignature}
+use Rattle.refine_core.proofs.StrongSignatures.{HasGot}
 use Rattle.refine_core.proofs.strong.sign_active.Given as goal
 
 abbrev pub invariant-loop-i : goal.invariant-loop-i

@@ -1,11 +1,7 @@
-use Rattle.std.proofs.Common.{rules, ◌∙◌, length, sym, ap, arith}
-use Rattle.std.proofs.lemmas.Option.{none-some}
+use Rattle.std.proofs.Common.{rules, ◌∙◌, length, ap, refl, arith, inl, inr}
 use Rattle.refine_core.proofs.Signatures.{emptied}
 use Rattle.refine_core.proofs.IndexStates.{none_visited}
 use Rattle.refine_core.proofs.signed_blocks.SignedBlocks.begin_index.Goals as goal
-
-pub forget-requires-clause-none : goal.forget-requires-clause-none
-forget-requires-clause-none g c = rw (c.active.ensures.active) c.self.invariant.none
 
 pub invariant_of-result : goal.invariant_of-result
 invariant_of-result g c =
@@ -13,13 +9,8 @@ invariant_of-result g c =
     c.forget.ensures.states c.self.invariant.states)
 
 pub returns-then-not-needs_index-clause-begins : goal.returns-then-not-needs_index-clause-begins
-returns-then-not-needs_index-clause-begins g c = let same = c.needs_index.ensures in record {
-  blocks = ap (λ r. r.blocks) same;
-  cached = ap (λ r. r.cached) same;
-  unbuilt = λ _. same;
-  built = λ some. absurd (some (ap (λ r. r.index) same ∙ c.requires.absent));
-  index = rw (ap (λ r. r.index) same ∙ c.requires.absent) tt;
-}
+returns-then-not-needs_index-clause-begins g c = rw c.needs_index.ensures
+    (record { blocks = refl; cached = refl; built = inl refl; index = rw c.requires.absent tt })
 
 pub returns-then-not-needs_index-clause-visited : goal.returns-then-not-needs_index-clause-visited
 returns-then-not-needs_index-clause-visited g c =
@@ -29,7 +20,6 @@ pub returns-clause-begins : goal.returns-clause-begins
 returns-clause-begins g c = record {
   blocks = search rules;
   cached = search rules;
-  unbuilt = λ none. absurd (none-some _ (sym none));
-  built = λ _. search rules;
+  built = inr (λ none. cc, search rules);
   index = c.in_ok-predecessors.ensures.index _ (search rules);
 }

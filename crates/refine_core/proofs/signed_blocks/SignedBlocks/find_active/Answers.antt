@@ -2,9 +2,6 @@ use Rattle.std.proofs.Common.{sym, refl}
 use Rattle.refine_core.proofs.Signatures.{emptied}
 use Rattle.refine_core.proofs.signed_blocks.SignedBlocks.find_active.Goals as goal
 
-pub forget-requires-clause-none : goal.forget-requires-clause-none
-forget-requires-clause-none g c = rw (c.active.ensures.active) c.self.invariant.none
-
 pub invariant_of-result : goal.invariant_of-result
 invariant_of-result g c =
     rw c.with_active-blocks.ensures.same

@@ -1,25 +1,18 @@
-use Rattle.std.proofs.Common.{rules, ◌∙◌, length, ap, sym, subst}
+use Rattle.std.proofs.Common.{rules, ◌∙◌, sym, subst}
 use Rattle.theory.specs.declared.relation.Relation.TheVariants.{Strong}
 use Rattle.refine_core.specs.IndexState.{IsReadyToSign}
-use Rattle.refine_core.proofs.Showing.{strong_signs}
+use Rattle.refine_core.proofs.StrongSignatures.{strong_signs}
 use Rattle.refine_core.proofs.strong.StrongSigning.sign.Goals as goal
 
 pub sign_active-requires-clause-signature_ids : goal.sign_active-requires-clause-signature_ids
-sign_active-requires-clause-signature_ids g c = record {
-  size = search rules;
-  ascending = search rules;
-  none = rw (c.active.ensures.active) c.round.invariant.none;
-}
-
-pub invariant_of-round : goal.invariant_of-round
-invariant_of-round g c =
-    rw (c.block_ids.ensures.block_ids, c.active.ensures.active) at c.in_ok-sign_active.ensures.signature_ids
+sign_active-requires-clause-signature_ids g c =
+    search (rules, rw (sym c.active.ensures.active) at c.round.invariant.none)
 
 pub returns-clause-signed : goal.returns-clause-signed
 returns-clause-signed g c old ready =
     let have = c.invariants-2.ensures.have in
-    strong_signs c.args.l.now old _ (subst (IsReadyToSign Strong c.args.l.now old) (sym c.round.view_is) ready) _ _
-    c.invariants-2.ensures.signatures.first
-    (have.states ∙ ap (λ r. length r.blocks.block_ids) c.round.view_is ∙ c.requires.states) have.none
+    let ready = subst (IsReadyToSign Strong c.args.l.now old) (sym c.round.view_is) ready in
+    strong_signs c.args.l.now old _ ready _ _ c.invariants-2.ensures.signatures.first (have.states ∙ ready.states)
+    have.none
     (rw (c.block_ids.ensures.block_ids, c.first_new.ensures, c.active.ensures.active) at
     c.in_ok-sign_active.ensures.signed)

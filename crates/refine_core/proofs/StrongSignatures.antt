@@ -1,33 +1,26 @@
--- Lemmas about the signatures of the active states, which are the states that the round processes. The row of a state
--- is the list of its outgoing transitions. The pair of a transition consists of its label ID and the block ID of its
--- target. For strong bisimilarity, the signature of a state is the list of the pairs of its transitions, in ascending
--- order and without duplicates.
+-- Lemmas about steps, and about strong signatures. The row of a state is the list of its outgoing transitions. The pair
+-- of a transition consists of its label ID and the block ID of its target. For strong bisimilarity, the signature of a
+-- state is the list of the pairs of its transitions, in ascending order and without duplicates.
 use Rattle.std.proofs.Common.{rules, ◌≡◌, ◌↔◌, ℕ, ◌+◌, ◌<◌, List, [], length, slice_index, set, Contains, arith, ◌-◌}
-use Rattle.std.proofs.Common.{◌∷◌, ◌++◌, ◌≤◌, take, map, sym, refl, ap, inl, inr, ◌∙◌}
+use Rattle.std.proofs.Common.{◌≤◌, take, map, sym, refl, ap, inl, inr, ◌∙◌, Option, None, Some}
 use Rattle.std.proofs.lemmas.Grind.{common_steps}
 use Rattle.std.proofs.lemmas.List.{get_or-map, get_or-set_other, length-map, length-set}
 use Rattle.std.proofs.lemmas.List.Elements.{All-contains}
 use Rattle.std.specs.List.Sorted.{IsStrictlySortedBy}
-use Rattle.theory.specs.System.{Step}
+use Rattle.theory.specs.System.{System, Step, IsSystem}
 use Rattle.theory.specs.declared.relation.Relation.TheVariants.{Strong}
-use Rattle.lts.specs.Labels.{text_of}
+use Rattle.theory.proofs.CallerLemmas.{step_below}
+use Rattle.lts.specs.Labels.{text_of, IsLabelId}
 use Rattle.lts.specs.Lts.{Grouped, Triple, source_of, label_of, target_of, place_at, before, row_of, system_of}
 use Rattle.lts.specs.Lts.{IsTriple, IsLts}
 use Rattle.lts.specs.Visited.{remaining_of}
 use Rattle.lts.proofs.CallerLemmas.{contains_mapped, mapped_contains, left_none}
 use Rattle.signatures.specs.Lists.{list_at, Grow, pair_cmp}
-use Rattle.partition.specs.Blocks.{AreActive, InactiveHaveNone}
+use Rattle.signatures.proofs.CallerLemmas.{ascending_none}
+use Rattle.partition.specs.Blocks.{AreActive, InactiveHaveNone, IsMember}
 use Rattle.inert.specs.Signed.{HasPair, IsSignature, pair_under}
-use Rattle.refine_core.specs.Signatures.{list_of}
-use Rattle.refine_core.specs.Shown.{HasNewBlock, IsStrongSplitSignature}
-use Rattle.refine_core.proofs.Showing.{IsUnaffected, unaffected_as_before, affected_changed}
-
--- `StepsAreRow` is about the row of the state s, which is the list of the stored transitions from s. It holds if, for
--- each label a and each state t, s -a-> t is a step of the system (`Step`) if and only if the row contains a transition
--- to t whose label ID is the ID of the label a.
-abbrev pub StepsAreRow : Grouped → ℕ → Type 0
-StepsAreRow l s = (a : List ℕ) (t : ℕ) → Step (system_of l) s a t ↔ ((e : Triple) × Contains (row_of s l.places) e
-    × (text_of l.labels (label_of e) ≡ a) × (target_of e ≡ t))
+use Rattle.refine_core.specs.Signatures.{Signed, list_of, HasNewBlock, IsAsBefore, IsStrongSplitSignature, Follows}
+use Rattle.refine_core.specs.IndexState.{IsReadyToSign, SignsEach}
 
 -- `StepAt` holds if the list of all transitions contains a transition from the state s to the state t with the label a.
 -- The field `place` is the index of this transition in the list.
@@ -41,15 +34,49 @@ pub record StepAt (l : Grouped) (s : ℕ) (a : List ℕ) (t : ℕ) : Type 0 wher
 pub step_at : (l : Grouped) (s : ℕ) (a : List ℕ) (t : ℕ) → Step (system_of l) s a t → StepAt l s a t
 step_at l s a t step = grind (arith, common_steps, length-map, get_or-map)
 
--- Suppose that the row of the state s, which is the list of the stored transitions from s, is empty. Then no step leads
--- from s to any state.
-pub no_step : (l : Grouped) (s : ℕ) → StepsAreRow l s → row_of s l.places ≡ [] → (a : List ℕ) (t : ℕ)
-    → ¬ Step (system_of l) s a t
-no_step l s steps empty a t step = let found = (steps a t).0 step in grind (arith, common_steps)
+-- `Labelled` holds if the label of each step of the system is in the label table.
+abbrev pub Labelled : Grouped → Type 0
+Labelled l = (s : ℕ) (a : List ℕ) (t : ℕ) → Step (system_of l) s a t → (k : ℕ) × IsLabelId l.labels k a
 
+-- Each step of the system comes from a stored transition, and the label ID of this transition is in the label table.
+pub labels_have_ids : (l : Grouped) → IsLts l → Labelled l
+labels_have_ids l lts s a t step = let k = step_at l s a t step in (
+  label_of (place_at l.places k.place),
+  record { below = (lts.in_range.each k.place (0, 0, 0) k.below).label; text = k.label },
+)
+
+-- `IsUnaffected` holds if each transition of the state s leads to an old block. A block is old if its ID is less than
+-- `first_new`. The last split has made all other blocks.
+abbrev pub IsUnaffected : System → (ℕ → ℕ) → ℕ → ℕ → Type 0
+IsUnaffected A blocks first_new s = (a : List ℕ) (t : ℕ) → Step A s a t → blocks t < first_new
+
+-- Suppose that no transition of the state s leads to a new block, which is a block that the last split has made. Then
+-- the strong signature of s is the same as in the last round.
+pub unaffected_as_before : (l : Grouped) → IsSystem (system_of l) → (old : Option (List ℕ)) (of : List ℕ) (low : ℕ)
+    → Follows Strong l old of low → (s : ℕ) → IsUnaffected (system_of l) (slice_index of) low s
+    → IsAsBefore Strong l old of s
+unaffected_as_before l sys None of low follows s still a b =
+    (λ h. absurd (omega (arith, still a h.0 h.1, follows refl)), λ none. absurd none)
+unaffected_as_before l sys (Some old) of low follows s still a b =
+    let same = λ (t : ℕ) (step : Step (system_of l) s a t). follows.stays t
+    (step_below (system_of l) sys s a t step).1 (still a t step) in
+    (λ h. (h.0, h.1, sym (same h.0 h.1) ∙ h.2), λ h. (h.0, h.1, same h.0 h.1 ∙ h.2))
+
+-- Suppose that a transition of the state s leads to a new block, which is a block that the last split has made. Then
+-- the strong signature of s has changed since the last round.
+pub affected_changed : (l : Grouped) → IsSystem (system_of l) → (old : Option (List ℕ)) (of : List ℕ) (low : ℕ)
+    → Follows Strong l old of low → (s : ℕ) (a : List ℕ) (t : ℕ) → Step (system_of l) s a t → low ≤ slice_index of t
+    → ¬ IsAsBefore Strong l old of s
+affected_changed l sys None of low follows s a t step new same = (same a (slice_index of t)).0 (t, step, refl)
+affected_changed l sys (Some old) of low follows s a t step new same =
+    grind (arith, common_steps, same a (slice_index of t), follows.below, step_below (system_of l) sys s a)
+
+-- The following lemmas are about the row of the state s, which is the list of the stored transitions from s. The
+-- arguments `sources` and `steps` are the laws that the contract of `lts::rows_are_steps` states for s.
 module _ (l : Grouped) (blocks : List ℕ) (s : ℕ) (h : IsLts l)
     (sources : (e : Triple) → Contains (row_of s l.places) e ↔ (Contains l.places e × (source_of e ≡ s)))
-    (steps : StepsAreRow l s) where
+    (steps : (a : List ℕ) (t : ℕ) → Step (system_of l) s a t ↔ ((e : Triple) × Contains (row_of s l.places) e
+    × (text_of l.labels (label_of e) ≡ a) × (target_of e ≡ t))) where
   -- `pairs` is the list of the pairs (label ID, block ID of the target) of the transitions of the state s, in the order
   -- of these transitions.
   abbrev pairs : List (ℕ × ℕ)
@@ -116,18 +143,6 @@ module _ (blocks : List ℕ) (places : List Triple) (s start : ℕ) where
   pub pairs_none : [] ≡ pairs_to start
   pairs_none = search rules
 
-  -- The place of a transition is its index in the list of all transitions, and its pair consists of its label ID and
-  -- the block ID of its target. Suppose that the list `pairs` consists of the pairs of those transitions of the state s
-  -- whose places are less than k. Suppose that the transition at the place k is also a transition of s, and that the
-  -- list `new` results from appending the pair of this transition to `pairs`. Then `new` consists of the pairs of those
-  -- transitions of s whose places are less than k + 1.
-  pub pairs_more : (k next : ℕ) {label target : ℕ} {pairs new : List (ℕ × ℕ)}
-      → take ((k + 1) - start) (row_of s places) ≡ take (k - start) (row_of s places) ++ place_at places k ∷ []
-      → next ≡ k + 1 → label ≡ (place_at places k).1 → target ≡ (place_at places k).2 → pairs ≡ pairs_to k
-      → new ≡ pairs ++ (label, slice_index blocks target) ∷ [] → new ≡ pairs_to next
-  pairs_more k next {label = label} {target = target} row is_next is_label is_target before after =
-      grind (arith, common_steps)
-
 -- A visit is a read of a transition that the meter counts. Suppose that no transition was visited yet. Then the number
 -- of unvisited transitions of a state is the number of all transitions of this state.
 pub row_all : (visited : List ℕ) (places : List Triple) (s : ℕ) → visited ≡ []
@@ -162,3 +177,27 @@ signed_more grow rises size more before within this = search rules
 pub inactive_none_more : (signature_ids active : List ℕ) (i k : ℕ) → i < length active
     → InactiveHaveNone active signature_ids → InactiveHaveNone active (set signature_ids (slice_index active i) k)
 inactive_none_more signature_ids active i k more none t h = grind (arith, common_steps, get_or-set_other, length-set)
+
+-- The split signature of a state is empty if the signature of the state has not changed since the last round, and
+-- otherwise it is the new signature. Suppose that the data of the round was ready for computing signatures
+-- (`IsReadyToSign`). Suppose that, for each active state (each state that the round processes), the list
+-- `signature_ids` contains the ID of the split signature of the state. Suppose that, for each other state, this list
+-- contains the ID of the empty signature. Then the round has computed the signatures correctly (`SignsEach`).
+pub strong_signs : (l : Grouped) (old : Option (List ℕ)) (r : Signed) → IsReadyToSign Strong l old r
+    → (signatures : List (List (ℕ × ℕ))) (signature_ids : List ℕ) → list_at signatures 0 ≡ []
+    → length signature_ids ≡ l.states → InactiveHaveNone r.blocks.active signature_ids
+    → ((s : ℕ) → IsMember r.blocks.active s → IsStrongSplitSignature l r.blocks.block_ids r.blocks.first_new s
+    (list_of signatures signature_ids s))
+    → SignsEach Strong l old (record r { signatures = signatures; signature_ids = signature_ids })
+strong_signs l old r ready signatures signature_ids first size none put =
+    let given = λ (s : ℕ) (one : IsMember r.blocks.active s). put s one old ready.follows in record {
+      each = λ s ls. grind (arith, ready.others s ls, none s, given s, size, first);
+      first = λ is s one. elim (rw is at (given s one)) [
+        | inl same ↦ rw same.0 (record {
+          exactly = λ k b. grind (arith, same.1 (text_of l.labels k) b);
+          ascending = ascending_none pair_cmp;
+        })
+        | inr changed ↦ changed.2
+      ];
+      cached = λ is. absurd cc;
+    }
