@@ -2,6 +2,5 @@ pub mod CallerLemmas
 pub mod Spending
 pub mod StrongSignatures
 pub mod Signatures
-pub mod Finding
 pub mod Searching
 pub mod IndexStates

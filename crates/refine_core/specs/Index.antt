@@ -80,14 +80,6 @@ pub record AreFound (rel : Relation) (l : Grouped) (p : RoundBlocks) (found : Li
   pub ascending : AreActive l.states found
   pub complete : SearchIsComplete rel l p found
 
--- Returns, for each state, a range of entries of the predecessor index `x`. Each entry in the range of a state belongs
--- to a transition to this state. If the first argument is false, the range of a state contains the entries of all
--- transitions to the state. If the first argument is true, the range contains only the internal group of the state.
--- This group consists of entries of internal transitions to the state.
-abbrev pub ranges_of : Bool → Entries → List (ℕ × ℕ)
-ranges_of false x = x.all
-ranges_of true x = x.internal
-
 -- `IsNotLookedUp` holds if no transition to the state t was visited in this round. A visit is a read of a transition
 -- that the meter counts. The list `visited` contains the places of the visited transitions. The place of a transition
 -- is its index in the list of all transitions.

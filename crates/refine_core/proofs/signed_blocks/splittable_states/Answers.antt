@@ -1,5 +1,5 @@
 use Rattle.std.proofs.Common.{◌≡◌, sym, inl, inr, arith}
-use Rattle.refine_core.proofs.Finding.{live_less, live_more, no_row}
+use Rattle.refine_core.proofs.Searching.{live_less, live_more, no_row}
 use Rattle.refine_core.proofs.signed_blocks.splittable_states.Goals as goal
 
 pub loop-s-preserved-then-start-end : goal.loop-s-preserved-then-start-end

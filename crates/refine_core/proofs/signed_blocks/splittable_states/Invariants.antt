@@ -1,7 +1,7 @@
 use Rattle.std.proofs.Common.{◌≡◌, ◌⊎◌, []}
 use Rattle.lts.specs.Lts.{row_of}
 use Rattle.partition.specs.Splitting.{IsSingleton}
-use Rattle.refine_core.proofs.Finding.{AreAllBut}
+use Rattle.refine_core.proofs.Searching.{AreAllBut}
 use Rattle.refine_core.proofs.signed_blocks.splittable_states.Given as goal
 
 abbrev pub invariant-loop-s : goal.invariant-loop-s
