@@ -55,7 +55,8 @@ loop-s-init g c = let at = (goal.at.loop-s-init g c).In_ok-vec-2 in
       few = omega (arith, ap length one);
       below = λ i l. let e : i ≡ 0 = omega (arith, l, ap length one) in
           rw (one, e, of_first g at) (below g at c.args.l.now.first c.states.ensures.lts.in_range.first_below);
-      taken = Taken-start _ _ _ (laws g at) c.count.result _ (λ t l. omega (arith, below g at t l, c.count.ensures))
+      taken = Taken-start c.args.r (system_of c.args.l.now) (slice_index c.args.blocks.block_ids) (laws g at)
+          c.count.result _ (λ t l. omega (arith, below g at t l, c.count.ensures))
           (set_first g at) c.in_ok-with_capacity.ensures.items (one ∙ ap (λ b. b ∷ []) (of_first g at));
     }
 
@@ -73,8 +74,8 @@ loop-s-preserved g c =
       room = (TakesState-room takes).0 ∙ up.room;
       few = omega (arith, (TakesState-room takes).2, up.few);
       below = λ i l. grind (arith, class_at takes i l, up.below i, below g at s low);
-      taken = Taken-adds _ _ _ (laws g at) s c.loop-s.taken _ _ is_reached low
-          (omega (arith, low, c.states.ensures.lts.in_range.few_states)) up.few
+      taken = Taken-adds c.args.r (system_of c.args.l.now) (slice_index c.args.blocks.block_ids) (laws g at) s
+          c.loop-s.taken _ _ is_reached low (omega (arith, low, c.states.ensures.lts.in_range.few_states)) up.few
           (omega (arith, below g at s low, up.room)) up.taken takes;
     }
 
