@@ -124,13 +124,16 @@ pub fn command(alloc: Global, words: Vec<String>) -> Result<Job, WordFault>
 fn described<'a>(alloc: Global) -> Result<Command<'a>, AllocError>
     ensures { IfOk result (λ c. app_of c ≡ program_app) }
 {
+    // The prover needs a lot of time for each description that is dropped after a failed allocation. Therefore `min` is
+    // built before the command line, and the name of the program is set after `min` is added.
+    let min = described_min(alloc)?;
     Command::new(alloc, "autbis")
-        .bin_name("autbis")?
         .about("Minimises and compares labelled transition systems in the Aldebaran (.aut) format")
         .version(VERSION)
         .after_help(NOTES)
         .subcommand_required(true)
-        .subcommand(described_min(alloc)?)?
+        .subcommand(min)?
+        .bin_name("autbis")?
         .subcommand(described_cmp(alloc)?)
 }
 
