@@ -1,7 +1,5 @@
 use Rattle.std.proofs.Common.{arith}
 use Rattle.std.proofs.lemmas.Result.{IfOk-weaker}
-use Rattle.lts.specs.Lts.{system_of}
-use Rattle.refine_core.specs.IndexState.{RenumbersFew}
 use Rattle.refine_core.proofs.refinement.refine.Goals as goal
 
 pub returns-clause-bisimilar : goal.returns-clause-bisimilar
@@ -14,12 +12,11 @@ returns-clause-bisimilar g c =
 pub returns-clause-few : goal.returns-clause-few
 returns-clause-few g c =
     let of = c.in_ok-blocks.ensures in
-    let few = of.few in
     let ids = c.block_ids.ensures.block_ids in
-    IfOk-weaker c.renumber.result _ (RenumbersFew g.S.Signing.relation (system_of c.args.l.now)) (λ p same. record {
-      last = few.last;
-      past = few.past;
-      rounds = few.rounds;
-      same = λ s t ls lt. grind (arith, same s t, few.same s t, ids, of.states);
-      few = few.few;
+    IfOk-weaker c.renumber.result _ _ (λ p same. record {
+      last = of.few.last;
+      past = of.few.past;
+      rounds = of.few.rounds;
+      same = λ s t ls lt. grind (arith, same s t, of.few.same s t, ids, of.states);
+      few = of.few.few;
     }) c.renumber.ensures.same

@@ -1,11 +1,14 @@
 use Rattle.std.proofs.Common.{◌∙◌, sym, ap}
 use Rattle.std.proofs.lemmas.Result.{IfOk-weaker}
-use Rattle.refine_core.proofs.IndexStates.{begun_unindexed, none_visited, restarted, searched}
+use Rattle.refine_core.proofs.IndexStates.{begun_all, begun_unindexed, none_visited, searched}
 use Rattle.refine_core.proofs.signing.begin_round.Goals as goal
 
+-- Suppose that all signatures were discarded, and that the call of `activate_all` has succeeded. Then the data of the
+-- round is ready for computing signatures (`IsBegun`).
 pub returns-then-len-round-clause-begun : goal.returns-then-len-round-clause-begun
-returns-then-len-round-clause-begun g c = IfOk-weaker c.activate_all.result _ _
-    (λ r. restarted _ _ _ r c.requires.ready_for_round)
+returns-then-len-round-clause-begun g c = let a = c.requires.ready_for_round in IfOk-weaker c.activate_all.result _ _
+    (λ r again. begun_all _ _ _ r a again.blocks again.all (rw (again.index, again.blocks) a.index)
+    (λ _. again.discarded))
     (rw c.clear_visited-round.ensures at c.activate_all.ensures)
 
 pub returns-then-len-round-clause-visited : goal.returns-then-len-round-clause-visited

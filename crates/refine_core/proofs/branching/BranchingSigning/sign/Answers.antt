@@ -1,15 +1,13 @@
 use Rattle.std.proofs.Common.{◌∙◌, sym, subst, arith}
 use Rattle.std.proofs.lemmas.List.{take_at}
-use Rattle.theory.specs.declared.relation.Relation.TheVariants.{Branching}
 use Rattle.inert.specs.Signed.{SignsActive}
-use Rattle.refine_core.specs.IndexState.{IsReadyToSign}
 use Rattle.refine_core.proofs.Signatures.{written_back, cached_beside, branching_signs}
 use Rattle.refine_core.proofs.branching.BranchingSigning.sign.Goals as goal
 
 pub sign_each-requires-clause-cached : goal.sign_each-requires-clause-cached
 sign_each-requires-clause-cached g c =
     cached_beside c.args.l.now _ _
-    (subst (IsReadyToSign Branching c.args.l.now _) (sym c.round.view_is) c.requires.ready.1)
+    (rw (sym c.round.view_is) at c.requires.ready.1)
 
 pub invariant_of-round : goal.invariant_of-round
 invariant_of-round g c =
@@ -23,7 +21,7 @@ returns-clause-signed g c old ready =
     let l = c.args.l.now in
     let r = c.round.inside in
     let have = c.invariants-3.ensures.have in
-    let ready = subst (IsReadyToSign Branching l old) (sym c.round.view_is) ready in
+    let ready = rw (sym c.round.view_is) at ready in
     branching_signs l old _ ready _ _ _ c.invariants-3.ensures.signatures
     (subst (SignsActive l r.blocks.block_ids r.blocks.active r.signatures c.sign_each.new.signatures r.signer
     c.sign_each.new.self) (sym (take_at _ _ _ (omega (arith, c.sign_each.auto.signature_ids, c.deref_mut.ensures.len))))

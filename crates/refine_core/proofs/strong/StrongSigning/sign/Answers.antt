@@ -1,6 +1,4 @@
-use Rattle.std.proofs.Common.{rules, ◌∙◌, sym, subst}
-use Rattle.theory.specs.declared.relation.Relation.TheVariants.{Strong}
-use Rattle.refine_core.specs.IndexState.{IsReadyToSign}
+use Rattle.std.proofs.Common.{rules, ◌∙◌, sym}
 use Rattle.refine_core.proofs.StrongSignatures.{strong_signs}
 use Rattle.refine_core.proofs.strong.StrongSigning.sign.Goals as goal
 
@@ -11,7 +9,7 @@ sign_active-requires-clause-signature_ids g c =
 pub returns-clause-signed : goal.returns-clause-signed
 returns-clause-signed g c old ready =
     let have = c.invariants-2.ensures.have in
-    let ready = subst (IsReadyToSign Strong c.args.l.now old) (sym c.round.view_is) ready in
+    let ready = rw (sym c.round.view_is) at ready in
     strong_signs c.args.l.now old _ ready _ _ c.invariants-2.ensures.signatures.first (have.states ∙ ready.states)
     have.none
     (rw (c.block_ids.ensures.block_ids, c.first_new.ensures, c.active.ensures.active) at
