@@ -169,7 +169,7 @@ empty_was l lts (Some old) of low was s ls none =
 -- Let r be the data of a round (`Signed`): the blocks, the active states (the states that the round processes), the
 -- signatures, and the predecessor index. The following lemmas assume that r is ready for computing branching signatures
 -- (`IsReadyToSign`).
-module _ (l : Grouped) (old : Option (List ℕ)) (r : Signed) (ready : IsReadyToSign Branching l old r) where
+module _ (l : Grouped) (r : Signed) (ready : IsReadyToSign Branching l r) where
   abbrev of : List ℕ
   of = r.blocks.block_ids
 
@@ -200,7 +200,7 @@ module _ (l : Grouped) (old : Option (List ℕ)) (r : Signed) (ready : IsReadyTo
   cached_beside = let keeps = ready.cached refl in record {
     states = keeps.states;
     each = keeps.signature_ids;
-    beside = λ s t hs ht same one. grind (arith, common_steps, active_or_cached s hs, ready.states);
+    beside = λ s t hs ht same one. grind (arith, common_steps, active_or_cached s hs, ready.is.states);
   }
 
   -- The following lemmas assume that the signatures of the active states (the states that the round processes) have
@@ -221,35 +221,35 @@ module _ (l : Grouped) (old : Option (List ℕ)) (r : Signed) (ready : IsReadyTo
     -- In the following lemmas, s is an active state, which is a state that the round processes. The lemmas assume that,
     -- before the signatures were computed, the cached ID of s was the ID of the signature that s had in the last round.
     module _ (lts : IsLts l) (s : ℕ) (h : s < l.states) (one : IsMember active s)
-        (was : IsListOf l (Was Branching l old s) (list_of r.signatures r.cached s)) where
+        (was : IsListOf l (Was Branching l ready.old s) (list_of r.signatures r.cached s)) where
       labelled : Labelled l
       labelled = labels_have_ids l lts
 
       -- Let s be an active state, which is a state that the round processes. Suppose that the round has computed the
       -- signature of s, and has stored the ID of this signature in the cache. Then the cached ID of s is the same as
       -- before if and only if the signature of s has not changed since the last round.
-      unchanged : (slice_index r.cached s ≡ slice_index cached s) ↔ IsAsBefore Branching l old of s
+      unchanged : (slice_index r.cached s ≡ slice_index cached s) ↔ IsAsBefore Branching l ready.old of s
       unchanged =
           let told = equal_represented l _ _ (list_of signatures cached s) (list_of r.signatures r.cached s)
-          (label_id_of l labelled Branching (Some of) s) (label_id_of l labelled Branching old s)
+          (label_id_of l labelled Branching (Some of) s) (label_id_of l labelled Branching ready.old s)
           ((signs.signed s one).ascending, (signs.signed s one).exactly) was in
           let apart = are.different (slice_index r.cached s) (slice_index cached s) in
           grind (arith, told, same_list s h, apart, within s h, signs.grow.longer, signs.each s 0, signs.states)
 
       -- Suppose that the signature of the active state s (a state that the round processes) is empty in this round.
       -- Then the signature of s was empty in the last round, too.
-      empty_still : list_of signatures cached s ≡ [] → IsAsBefore Branching l old of s
+      empty_still : list_of signatures cached s ≡ [] → IsAsBefore Branching l ready.old of s
       empty_still nil a b =
           let shows : HasEmptySignature (system_of l) (slice_index of) s = λ a b can.
           let (k, number) = label_id_of l labelled Branching (Some of) s a b can in
           let c = ((signs.signed s one).exactly k b).1 (number.below, rw number.text can) in
           omega (arith, (rw nil at c).1) in
-          (λ can. absurd (shows a b can), λ can. absurd (empty_was l lts old of _ ready.follows s h shows a b can))
+          (λ can. absurd (shows a b can), λ can. absurd (empty_was l lts ready.old of _ ready.is.follows s h shows a b can))
 
       -- The split signature of a state is empty if the signature of the state has not changed since the last round, and
       -- otherwise it is the new signature. For the active state s, which is a state that the round processes, the list
       -- `signature_ids` contains the ID of the split signature of s (`IsSplitSignature`).
-      split_id : IsSplitSignature Branching l old of s (list_of signatures signature_ids s)
+      split_id : IsSplitSignature Branching l ready.old of s (list_of signatures signature_ids s)
       split_id = elim (signs.changed s one) [
         | inl (is, zero) ↦ inl (ap (list_at signatures) zero ∙ are.first, unchanged.0 is)
         | inr (other, now) ↦
@@ -269,7 +269,7 @@ module _ (l : Grouped) (old : Option (List ℕ)) (r : Signed) (ready : IsReadyTo
     -- otherwise it is the new signature. After the signatures have been computed, `signature_ids` contains the ID of
     -- the split signature of each state that is not in a singleton block. The cache contains the ID of the present
     -- signature of each such state (`SignsEach`).
-    pub branching_signs : IsLts l → SignsEach Branching l old
+    pub branching_signs : IsLts l → SignsEach Branching l ready.old
         (record r { signatures = signatures; cached = cached; signature_ids = signature_ids })
     branching_signs lts = let keeps = ready.cached refl in record {
       each = λ s h. let given = λ (one : IsMember active s). ⊎_map (λ x. x) (split_id lts s h one) (keeps.each s h) in

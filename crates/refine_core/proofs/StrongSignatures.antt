@@ -183,14 +183,14 @@ inactive_none_more signature_ids active i k more none t h = grind (arith, common
 -- (`IsReadyToSign`). Suppose that, for each active state (each state that the round processes), the list
 -- `signature_ids` contains the ID of the split signature of the state. Suppose that, for each other state, this list
 -- contains the ID of the empty signature. Then the round has computed the signatures correctly (`SignsEach`).
-pub strong_signs : (l : Grouped) (old : Option (List ℕ)) (r : Signed) → IsReadyToSign Strong l old r
-    → (signatures : List (List (ℕ × ℕ))) (signature_ids : List ℕ) → list_at signatures 0 ≡ []
+pub strong_signs : (l : Grouped) (r : Signed) (ready : IsReadyToSign Strong l r)
+    (signatures : List (List (ℕ × ℕ))) (signature_ids : List ℕ) → list_at signatures 0 ≡ []
     → length signature_ids ≡ l.states → InactiveHaveNone r.blocks.active signature_ids
     → ((s : ℕ) → IsMember r.blocks.active s → IsStrongSplitSignature l r.blocks.block_ids r.blocks.first_new s
     (list_of signatures signature_ids s))
-    → SignsEach Strong l old (record r { signatures = signatures; signature_ids = signature_ids })
-strong_signs l old r ready signatures signature_ids first size none put =
-    let given = λ (s : ℕ) (one : IsMember r.blocks.active s). put s one old ready.follows in record {
+    → SignsEach Strong l ready.old (record r { signatures = signatures; signature_ids = signature_ids })
+strong_signs l r ready signatures signature_ids first size none put =
+    let given = λ (s : ℕ) (one : IsMember r.blocks.active s). put s one ready.old ready.is.follows in record {
       each = λ s ls. grind (arith, ready.others s ls, none s, given s, size, first);
       first = λ is s one. elim (rw is at (given s one)) [
         | inl same ↦ rw same.0 (record {

@@ -12,7 +12,7 @@ use Rattle.theory.specs.Blocks.{Split, SameBlocks, OneBlock, Underway}
 use Rattle.lts.specs.Meter.{Counts, Costs}
 use Rattle.lts.specs.Lts.{Grouped, row_of, system_of}
 use Rattle.partition.specs.Splitting.{IsSingleton, Splits}
-use Rattle.partition.specs.Blocks.{RoundBlocks, IsMember}
+use Rattle.partition.specs.Blocks.{IsMember}
 use Rattle.partition.specs.Sizes.{HalvesBlocks}
 use Rattle.partition.specs.Renumberings.{WereHalved, renumberings}
 use Rattle.inert.specs.Signed.{IsSignature}
@@ -32,51 +32,40 @@ OthersSatisfy R states blocks active = (s : ℕ) → s < states → IsMember act
 abbrev pub AreAllActive : Grouped → List ℕ → List ℕ → Type 0
 AreAllActive l = OthersSatisfy (λ s. row_of s l.places ≡ []) l.states
 
--- `Awaits` holds if r, the data of a round (`Signed`), is ready for a new round. The data r must contain the block ID
--- of each state of the system `l`. The field `old` contains the block IDs of all states in the last round, or is `None`
--- if no round has run yet. If a round has run, the blocks of r must result from splitting the blocks of the last round
--- (`Follows`). If no round has run yet, all blocks must count as new for strong bisimilarity. If there is no
--- predecessor index, each state must be active (processed by the round), be in a singleton block, or have no outgoing
--- transition. If there is a predecessor index, it must be an index of the system `l` (`HasIndex`). If there is a
--- predecessor index, a round must have run before, and for branching bisimilarity, the signatures of the last round
--- must be cached (`CachesIds`).
-pub record Awaits (rel : Relation) (l : Grouped) (r : Signed) : Type 0 where
+-- `IsAtRound` states what holds for r, the data of a round (`Signed`), when the round begins, and also when the round
+-- computes signatures. The data r must contain the block ID of each state of the system `l`. The argument `old` contains
+-- the block IDs of all states in the last round. If `old` is `None`, no round has run yet, or all signatures have been
+-- discarded since the last round. The blocks of r must result from splitting the blocks of the last round (`Follows`).
+-- If there is no predecessor index, each state must be active (processed by the round), be in a singleton block, or have
+-- no outgoing transition. If there is a predecessor index, it must be an index of the system `l` (`HasIndex`).
+pub record IsAtRound (rel : Relation) (l : Grouped) (old : Option (List ℕ)) (r : Signed) : Type 0 where
   pub states : length r.blocks.block_ids ≡ l.states
-  pub old : Option (List ℕ)
   pub follows : Follows rel l old r.blocks.block_ids r.blocks.first_new
   pub all : r.index ≡ None → AreAllActive l r.blocks.block_ids r.blocks.active
   pub index : IfSome r.index (HasIndex rel l r.blocks.block_ids)
+
+-- `Awaits` holds if r, the data of a round (`Signed`), is ready for a new round (`IsAtRound`). The field `old` contains
+-- the block IDs of all states in the last round, or is `None` if no round has run yet. If there is a predecessor index,
+-- a round must have run before, and for branching bisimilarity, the signatures of the last round must be cached
+-- (`CachesIds`).
+pub record Awaits (rel : Relation) (l : Grouped) (r : Signed) : Type 0 where
+  pub old : Option (List ℕ)
+  pub is : IsAtRound rel l old r
   pub later : ¬ (r.index ≡ None) → ¬ (old ≡ None)
       × (rel ≡ Branching → CachesIds l r.blocks.block_ids r.signatures r.cached old)
 
 -- `IsReadyToSign` holds if r, the data of a round (`Signed`), is ready for computing the signatures of the active
--- states, which are the states that the round processes. The data r must contain the block ID of each state of the
--- system `l`. The argument `old` contains the block IDs of all states in the last round, and the blocks of r must
--- result from splitting the blocks of the last round (`Follows`). Each state that is neither active nor in a singleton
--- block must have the same signature as in the last round. For branching bisimilarity, the signatures of the last round
--- must be cached (`CachesIds`). If `old` is `None`, no round has run yet, or all signatures have been discarded since
--- the last round. If `old` is `None`, the signature of each state in the last round is taken to be empty. In this case,
--- all blocks must count as new for strong bisimilarity, and the cached signature of each state must be empty for
--- branching bisimilarity.
-pub record IsReadyToSign (rel : Relation) (l : Grouped) (old : Option (List ℕ)) (r : Signed) : Type 0 where
-  pub states : length r.blocks.block_ids ≡ l.states
+-- states, which are the states that the round processes (`IsAtRound`). The field `old` contains the block IDs of all
+-- states in the last round. Each state that is neither active nor in a singleton block must have the same signature as
+-- in the last round. For branching bisimilarity, the signatures of the last round must be cached (`CachesIds`). If `old`
+-- is `None`, the signature of each state in the last round is taken to be empty. For branching bisimilarity, the cached
+-- signature of each state must be empty in this case.
+pub record IsReadyToSign (rel : Relation) (l : Grouped) (r : Signed) : Type 0 where
+  pub old : Option (List ℕ)
+  pub is : IsAtRound rel l old r
   pub others : OthersSatisfy (IsAsBefore rel l old r.blocks.block_ids) l.states r.blocks.block_ids r.blocks.active
-  pub follows : Follows rel l old r.blocks.block_ids r.blocks.first_new
   pub cached : rel ≡ Branching → CachesIds l r.blocks.block_ids r.signatures r.cached old
   pub empty : rel ≡ Branching → old ≡ None → (s : ℕ) → slice_index r.cached s ≡ 0
-
--- `IsBegun` holds if r, the data of a round (`Signed`), is ready for computing the signatures of the active states
--- (`IsReadyToSign`). The record p contains the blocks and the active states with which the round started. The blocks of
--- r must be the same as the blocks of p, but the active states of r (the states that the round processes) may be
--- different. If there is no predecessor index, each state must be active, be in a singleton block, or have no outgoing
--- transition. If there is a predecessor index, it must be an index of the system `l` (`HasIndex`). The field `old`
--- contains the block IDs of all states in the last round.
-pub record IsBegun (rel : Relation) (l : Grouped) (p : RoundBlocks) (r : Signed) : Type 0 where
-  pub old : Option (List ℕ)
-  pub blocks : r.blocks ≡ record p { active = r.blocks.active }
-  pub all : r.index ≡ None → AreAllActive l r.blocks.block_ids r.blocks.active
-  pub index : IfSome r.index (HasIndex rel l r.blocks.block_ids)
-  pub ready : IsReadyToSign rel l old r
 
 -- `MayBuildIndex` is about the step of a round that may build the predecessor index. The data of the round is p before
 -- the step, and r after the step. The step must not have changed the blocks and the cached signature IDs. Either the
@@ -130,13 +119,12 @@ pub record SignsEach (rel : Relation) (l : Grouped) (old : Option (List ℕ)) (r
 
 -- `SignsRound` is about the step of a round that computes the signatures of the active states, which are the states
 -- that the round processes. The data of the round is p before the step, and r after the step. The step must not have
--- changed the blocks and the predecessor index. Suppose that p was ready for the step with respect to some block IDs
--- `old` of the last round (`IsReadyToSign`). Then the signatures in r must be correct with respect to these block IDs
--- (`SignsEach`).
+-- changed the blocks and the predecessor index. Suppose that p was ready for the step (`IsReadyToSign`). Then the
+-- signatures in r must be correct with respect to the blocks of the last round (`SignsEach`).
 pub record SignsRound (rel : Relation) (l : Grouped) (p r : Signed) : Type 0 where
   pub blocks : r.blocks ≡ p.blocks
   pub index : r.index ≡ p.index
-  pub signs : (old : Option (List ℕ)) → IsReadyToSign rel l old p → SignsEach rel l old r
+  pub signs : (ready : IsReadyToSign rel l p) → SignsEach rel l ready.old r
 
 -- `IsNextRound` holds if q is the data after one round that started with the block IDs `of`. Splitting the blocks `of`
 -- by signatures must result in the blocks of q (`Split`). Before the round, there were `count` blocks, whose IDs were

@@ -1,6 +1,6 @@
 //! The first part of a round of refinement, which finds the active states (the states that the round processes) and
 //! computes their signatures. The second part of the round is the split.
-ghost use Rattle.std.specs.Prelude.{◌≡◌, ◌<◌, List, ℕ, Option, length, IfOk};
+ghost use Rattle.std.specs.Prelude.{◌≡◌, ◌<◌, ℕ, length, IfOk};
 ghost use Rattle.theory.specs.declared.relation.Relation.{Relation};
 ghost use Rattle.theory.specs.declared.relation.Relation.TheVariants.{Branching as branching};
 ghost use Rattle.lts.specs.Meter.{HasRoomFor, Costs, Visits, on_ok};
@@ -10,7 +10,7 @@ ghost use Rattle.partition.specs.Blocks.{IsMember};
 ghost use Rattle.inert.specs.Signed.{IsSignature};
 ghost use Rattle.refine_core.specs.Signatures.{HasNoSignatures, list_of};
 ghost use Rattle.refine_core.specs.Index.{HasVisited};
-ghost use Rattle.refine_core.specs.IndexState.{Awaits, IsBegun, IsReadyToSign, SignsEach, SignsRound};
+ghost use Rattle.refine_core.specs.IndexState.{Awaits, IsReadyToSign, SignsEach, SignsRound};
 
 use crate::signed_blocks::SignedBlocks;
 use lts::{Lts, Memory, Meter, visit_rest};
@@ -40,14 +40,14 @@ pub trait Signing {
     /// transition that the meter counts. If a transition was already visited in this round, the method may read the
     /// transition again, but the meter does not count this read.
     fn sign<M: Meter>(l: &Lts<M>, round: SignedBlocks, m: &mut M) -> Result<SignedBlocks, Memory>
-        requires ready { (old : Option (List ℕ)) × IsReadyToSign relation l.now old round }
+        requires ready { IsReadyToSign relation l.now round }
         requires visited { AreVisited l.now.places round.visited }
         requires room { HasRoomFor (M.counted m.old) 0
             (length (remaining_of round.visited l.now.places)) }
         ensures same { IfOk result (λ r. (r.blocks ≡ round.blocks)
             × (r.index ≡ round.index)) }
-        ensures signed { IfOk result (λ r. (old : Option (List ℕ))
-            → IsReadyToSign relation l.now old round → SignsEach relation l.now old r) }
+        ensures signed { IfOk result (λ r. (ready : IsReadyToSign relation l.now round)
+            → SignsEach relation l.now ready.old r) }
         ensures cost { Costs (M.counted m.old) (M.counted m.new) 0 0
             (length (remaining_of round.visited l.now.places)) };
 }
@@ -93,7 +93,7 @@ pub(crate) fn sign_and_visit_rest<S: Signing, M: Meter>(
     before: u128,
     m: &mut M,
 ) -> Result<SignedBlocks, Memory>
-    requires ready { (old : Option (List ℕ)) × IsReadyToSign S.relation l.now old round }
+    requires ready { IsReadyToSign S.relation l.now round }
     requires visited { let start = record (M.counted m.old) { visits = before } in
         HasVisited l.now.places start (M.counted m.old) round.visited }
     requires room { let start = record (M.counted m.old) { visits = before } in
@@ -128,7 +128,9 @@ pub(crate) fn begin_round<S: Signing, M: Meter>(
     requires room { HasRoomFor (M.counted m.old) 0 (length l.now.places) }
 
     // On success
-    ensures begun { IfOk result (IsBegun S.relation l.now round.blocks) }
+    ensures begun { IfOk result (IsReadyToSign S.relation l.now) }
+    ensures blocks { IfOk result
+        (λ r. r.blocks ≡ record round.blocks { active = r.blocks.active }) }
     ensures visited { IfOk result
         (λ r. HasVisited l.now.places (M.counted m.old) (M.counted m.new) r.visited) }
 

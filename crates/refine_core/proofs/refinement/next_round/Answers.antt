@@ -19,9 +19,9 @@ returns-in_err-next-clause-err g c =
 
 pub returns-clause-next : goal.returns-clause-next
 returns-clause-next g c =
-    let begun = c.in_ok-begun.ensures.begun in
-    let is = c.in_ok-signed.ensures.signed.blocks ∙ begun.blocks in
+    let begun = c.in_ok-begun.ensures in
+    let signed = c.in_ok-signed.ensures.signed in
     let known = c.invariants-2.ensures in
-    rw is at (is_next _ _ c.invariants.ensures c.args.round.blocks c.in_ok-begun.begun c.in_ok-signed.signed
-    c.in_ok-next.next begun c.in_ok-signed.ensures.signed known.blocks known.signatures known.have
-    c.in_ok-next.ensures.same c.in_ok-next.ensures.split)
+    rw (signed.blocks ∙ begun.blocks) at (is_next _ _ c.invariants.ensures c.in_ok-begun.begun c.in_ok-signed.signed
+    c.in_ok-next.next begun.begun signed known.blocks known.signatures known.have c.in_ok-next.ensures.same
+    c.in_ok-next.ensures.split)

@@ -25,11 +25,13 @@ loop-before-init g c =
     let on = c.refinement_goes_on.ensures.begun g.S.Signing.relation (system_of l) _ c.states.ensures.lts.system one in
     record {
       awaits = record {
-        states = rw is (blocks.states ∙ c.states.ensures.value);
         old = None;
-        follows = λ _. ap (λ b. b.first_new) is ∙ blocks.count.1;
-        all = λ _. rw is c.in_ok-active.ensures.others;
-        index = rw c.in_ok-round.ensures.absent tt;
+        is = record {
+          states = rw is (blocks.states ∙ c.states.ensures.value);
+          follows = λ _. ap (λ b. b.first_new) is ∙ blocks.count.1;
+          all = λ _. rw is c.in_ok-active.ensures.others;
+          index = rw c.in_ok-round.ensures.absent tt;
+        };
         later = λ some. absurd (some c.in_ok-round.ensures.absent);
       };
       made = rw is
@@ -43,14 +45,16 @@ next_round-requires-clause-ready_for_round g c =
     let a = c.loop-before.invariant.awaits in
     let leaves = c.in_ok-before.ensures.leaves in
     rw c.in_ok-before.ensures.same (record {
-      states = a.states;
       old = a.old;
-      follows = a.follows;
-      all = λ none s h. elim (a.all none s h) [
-        | inl one ↦ ⊎_map (λ one. one) inl (leaves.are s one)
-        | inr other ↦ inr other
-      ];
-      index = a.index;
+      is = record {
+        states = a.is.states;
+        follows = a.is.follows;
+        all = λ none s h. elim (a.is.all none s h) [
+          | inl one ↦ ⊎_map (λ one. one) inl (leaves.are s one)
+          | inr other ↦ inr other
+        ];
+        index = a.is.index;
+      };
       later = a.later;
     })
 
@@ -109,7 +113,7 @@ returns-then-more-count-clause-bisimilar g c =
 pub returns-then-more-count-clause-few : goal.returns-then-more-count-clause-few
 returns-then-more-count-clause-few g c =
     let (rounds, halves) = were g (goal.at.returns-then-more-count-clause-few g c).After-count-more in
-    let states = c.in_ok-next.ensures.next.awaits.states in
+    let states = c.in_ok-next.ensures.next.awaits.is.states in
     let last = c.in_ok-next.next.blocks.block_ids in
     let past = c.loop-before.round.blocks.block_ids ∷ c.loop-before.invariant.made.past in
     rw c.into_blocks-blocks.ensures (record {

@@ -1,4 +1,4 @@
-use Rattle.std.proofs.Common.{◌≡◌, ◌∙◌, None, inl, refl}
+use Rattle.std.proofs.Common.{◌≡◌, ◌∙◌, None, inl}
 use Rattle.refine_core.specs.IndexState.{IsReadyToSign}
 use Rattle.refine_core.proofs.IndexStates.{none_visited, ready_discarded}
 use Rattle.refine_core.proofs.signing.sign_all.Given.{Over}
@@ -11,13 +11,13 @@ module _ (g : Over) (c : In_ok-round g) where
   is : c.in_ok-round.round.blocks ≡ c.args.blocks
   is = c.in_ok-round.ensures.same.0 ∙ c.in_ok-new.ensures.blocks
 
-  ready : IsReadyToSign g.S.Signing.relation c.args.l.now None c.in_ok-round.round
+  ready : (ready : IsReadyToSign g.S.Signing.relation c.args.l.now c.in_ok-round.round) × (ready.old ≡ None)
   ready = ready_discarded _ _ _ (rw is c.requires.states) c.in_ok-round.ensures.discarded (λ _. rw is c.requires.new)
-      (λ s h. inl (rw is (c.requires.active s h)))
+      (λ s h. inl (rw is (c.requires.active s h))) (rw (c.in_ok-round.ensures.same.1, c.in_ok-new.ensures.absent) tt)
 
 pub sign_and_visit_rest-requires-clause-ready : goal.sign_and_visit_rest-requires-clause-ready
 sign_and_visit_rest-requires-clause-ready g c =
-    (None, ready g (goal.at.sign_and_visit_rest-requires-clause-ready g c).In_ok-round)
+    (ready g (goal.at.sign_and_visit_rest-requires-clause-ready g c).In_ok-round).0
 
 pub sign_and_visit_rest-requires-clause-visited : goal.sign_and_visit_rest-requires-clause-visited
 sign_and_visit_rest-requires-clause-visited g c = rw c.visits-start.ensures
@@ -29,4 +29,4 @@ returns-clause-signed g c s h =
     let signed = c.in_ok-signed.ensures.signed in
     let is = signed.blocks ∙ c.in_ok-round.ensures.same.0 ∙ c.in_ok-new.ensures.blocks in
     rw (is, ← c.into_signatures.ensures.0, ← c.into_signatures.ensures.1) at
-    ((signed.signs None ready).first refl s (rw is (c.requires.active s h)))
+    ((signed.signs ready.0).first ready.1 s (rw is (c.requires.active s h)))

@@ -6,8 +6,7 @@ use Rattle.refine_core.proofs.branching.BranchingSigning.sign.Goals as goal
 
 pub sign_each-requires-clause-cached : goal.sign_each-requires-clause-cached
 sign_each-requires-clause-cached g c =
-    cached_beside c.args.l.now _ _
-    (rw (sym c.round.view_is) at c.requires.ready.1)
+    cached_beside c.args.l.now _ (rw (sym c.round.view_is) at c.requires.ready)
 
 pub invariant_of-round : goal.invariant_of-round
 invariant_of-round g c =
@@ -17,12 +16,11 @@ invariant_of-round g c =
     (omega arith)
 
 pub returns-clause-signed : goal.returns-clause-signed
-returns-clause-signed g c old ready =
+returns-clause-signed g c = rw (sym c.round.view_is) (λ ready.
     let l = c.args.l.now in
     let r = c.round.inside in
     let have = c.invariants-3.ensures.have in
-    let ready = rw (sym c.round.view_is) at ready in
-    branching_signs l old _ ready _ _ _ c.invariants-3.ensures.signatures
+    branching_signs l _ ready _ _ _ c.invariants-3.ensures.signatures
     (subst (SignsActive l r.blocks.block_ids r.blocks.active r.signatures c.sign_each.new.signatures r.signer
     c.sign_each.new.self) (sym (take_at _ _ _ (omega (arith, c.sign_each.auto.signature_ids, c.deref_mut.ensures.len))))
-    c.in_ok-sign_each.ensures.signs) (have.states ∙ ready.states) have.none c.invariants.ensures
+    c.in_ok-sign_each.ensures.signs) (have.states ∙ ready.is.states) have.none c.invariants.ensures)

@@ -7,10 +7,9 @@ sign_active-requires-clause-signature_ids g c =
     search (rules, rw (sym c.active.ensures.active) at c.round.invariant.none)
 
 pub returns-clause-signed : goal.returns-clause-signed
-returns-clause-signed g c old ready =
+returns-clause-signed g c = rw (sym c.round.view_is) (λ ready.
     let have = c.invariants-2.ensures.have in
-    let ready = rw (sym c.round.view_is) at ready in
-    strong_signs c.args.l.now old _ ready _ _ c.invariants-2.ensures.signatures.first (have.states ∙ ready.states)
+    strong_signs c.args.l.now _ ready _ _ c.invariants-2.ensures.signatures.first (have.states ∙ ready.is.states)
     have.none
     (rw (c.block_ids.ensures.block_ids, c.first_new.ensures, c.active.ensures.active) at
-    c.in_ok-sign_active.ensures.signed)
+    c.in_ok-sign_active.ensures.signed))
