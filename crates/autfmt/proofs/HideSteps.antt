@@ -3,7 +3,7 @@
 use Rattle.std.proofs.Common.{◌≡◌, ◌⊎◌, ◌↔◌, ⊎_elim, ℕ, ◌+◌, ◌<◌, ◌≤◌, true, List, [], ◌∷◌, ◌++◌, length, Option, Some}
 use Rattle.std.proofs.Common.{Contains, refl, sym, inl, inr, arith}
 use Rattle.std.proofs.lemmas.Slice.Zip.{AllZip-long, all_zipped_more}
-use Rattle.std.proofs.lemmas.List.{append_assoc, length_push}
+use Rattle.std.proofs.lemmas.List.{append_assoc}
 use Rattle.std.proofs.lemmas.List.Elements.{All-nil, Contains-append_left, Contains-push, Contains-push_cases}
 use Rattle.std.specs.Io.KnownBytes.{IsAtEnd}
 use Rattle.lts.specs.Labels.{Interns}
@@ -13,7 +13,7 @@ use Rattle.autfmt.specs.Texts.{Lines}
 use Rattle.autfmt.specs.HideLists.{Hides, HideFault}
 use Rattle.autfmt.specs.Cutter.{Cutting, CutsLine, BeginsTooLong, IsPart}
 use Rattle.autfmt.specs.HideReaders.{IsHideFault, SameLabels, HidesAs}
-use Rattle.autfmt.specs.HideReadSoFar.{AddsLabel, HideReadSoFar}
+use Rattle.autfmt.specs.HideReadSoFar.{HideReadSoFar}
 use Rattle.autfmt.specs.HideOutcomes.{HideRefuses}
 use Rattle.autfmt.specs.HideOutcomes.HideRefuses.{failed_source, faulty_text}
 use Rattle.autfmt.proofs.HideLaws.{no_judged_hide_fault}
@@ -28,21 +28,20 @@ pushed H a b =
     let new : b ≡ a → Contains (H ++ a ∷ []) b = λ e. rw e (Contains-push H a) in
     (λ c. ⊎_elim (λ d. inl d) (λ e. inr (sym e)) (Contains-push_cases H a b c), ⊎_elim old new)
 
--- If a label is interned in a label table, then the new table contains exactly the labels of the old table and this
--- label.
-pub AddsLabel-intern : (old : List (List ℕ)) (a : List ℕ) (now : List (List ℕ)) → Interns old a now →
-    AddsLabel old a now
-AddsLabel-intern old a now (inl (known, same)) = grind arith
-AddsLabel-intern old a now (inr (unknown, put)) =
-    rw put (record { labels = pushed old a; longer = omega (arith, length_push old a) })
-
--- If two lists contain the same labels, and the label a is added to both lists, then the resulting lists contain the
--- same labels too.
+-- Suppose that two lists contain the same labels. If the label a is interned in the first list and appended to the
+-- second list, then the resulting lists contain the same labels too.
 SameLabels-add :
-    (hidden H : List (List ℕ)) (a : List ℕ) (now : List (List ℕ)) → SameLabels hidden H → AddsLabel hidden a now →
+    (hidden H : List (List ℕ)) (a : List ℕ) (now : List (List ℕ)) → SameLabels hidden H → Interns hidden a now →
     SameLabels now (H ++ a ∷ [])
-SameLabels-add hidden H a now same added b =
-    let s = same b in let l = added.labels b in let p = pushed H a b in grind (arith, s, l, p)
+SameLabels-add hidden H a now same (inl (known, is)) b =
+    let s = same b in let p = pushed H a b in
+    let new : b ≡ a → Contains hidden b = λ e. rw e known in rw is (grind (arith, s, new, p))
+SameLabels-add hidden H a now same (inr (unknown, is)) b =
+    let s = same b in let h = pushed hidden a b in let p = pushed H a b in
+    rw is (
+      λ c. p.1 (⊎_elim (λ d. inl (s.0 d)) (λ e. inr e) (h.0 c)),
+      λ c. h.1 (⊎_elim (λ d. inl (s.1 d)) (λ e. inr e) (p.0 c)),
+    )
 
 -- Before the reader has read any bytes of the hide list (a file with one label to hide on each line), it has read no
 -- labels.
@@ -92,7 +91,7 @@ module _ {given : List ℕ} {old : Cutting} {H hidden : List (List ℕ)} (got : 
   -- read before it, followed by a.
   pub hide_good :
       (now : Cutting) (a : List ℕ) (hidden' : List (List ℕ)) → (old.over ≡ true → ⊥) → CutsLine (old.ahead ++ got) now →
-      Hides now.line a → AddsLabel hidden a hidden' → HideReadSoFar (given ++ got) now (H ++ a ∷ []) hidden'
+      Hides now.line a → Interns hidden a hidden' → HideReadSoFar (given ++ got) now (H ++ a ∷ []) hidden'
   hide_good now a hidden' goes_on cuts names added = record {
     lines = so_far.lines ++ now.line ∷ [];
     cut = HasCut-line given got so_far.lines old so_far.cut goes_on now cuts;

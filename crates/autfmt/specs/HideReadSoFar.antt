@@ -1,16 +1,10 @@
 -- These definitions relate the lines of a hide list (the labels to hide) that have been read so far to the labels that
 -- the reader has stored.
-use Rattle.std.specs.Prelude.{◌≡◌, ◌↔◌, ◌⊎◌, ℕ, ◌+◌, ◌≤◌, List, length, Contains}
+use Rattle.std.specs.Prelude.{ℕ, List}
 use Rattle.std.specs.List.{AllZip}
 use Rattle.autfmt.specs.HideLists.{Hides}
 use Rattle.autfmt.specs.HideReaders.{SameLabels}
 use Rattle.autfmt.specs.Cutter.{Cutting, HasCut}
-
--- `AddsLabel old a now` holds if the list `now` contains exactly the label a and the labels of the list `old`, and
--- `now` has at most one item more than `old`.
-pub record AddsLabel (old : List (List ℕ)) (a : List ℕ) (now : List (List ℕ)) : Type 0 where
-  pub labels : (b : List ℕ) → Contains now b ↔ (Contains old b ⊎ (b ≡ a))
-  pub longer : length now ≤ length old + 1
 
 -- `HideReadSoFar given at H hidden` holds if all three of the following conditions hold. First, the line splitter
 -- (`Cutter`) in the state `at` has divided the bytes `given` into lines. Second, H is the list of the labels on these

@@ -2,8 +2,7 @@
 ghost use Rattle.std.specs.Prelude.{◌≡◌, ℕ, ◌<◌, List, [], length, Contains, IsSome, MatchOption, OnOk};
 ghost use Rattle.theory.specs.System.{IsLabel};
 ghost use Rattle.memory.specs.declared.limits.TheConstants.{MOST_LABELS};
-ghost use Rattle.lts.specs.Labels.{IsLabelId};
-ghost use Rattle.autfmt.specs.HideReadSoFar.{AddsLabel};
+ghost use Rattle.lts.specs.Labels.{IsLabelId, Interns};
 
 use lts::{Labels, Memory};
 use std::alloc::Global;
@@ -37,7 +36,7 @@ impl Hidden {
     pub(crate) fn add(&mut self, label: &[u8]) -> Result<(), Memory>
         requires label { IsLabel label.now }
         requires room { length self.old < MOST_LABELS }
-        ensures added { OnOk result (AddsLabel self.old label.now self.new) }
+        ensures added { OnOk result (Interns self.old label.now self.new) }
     {
         self.labels.intern(label)?;
         Ok(())

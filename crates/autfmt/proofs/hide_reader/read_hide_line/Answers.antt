@@ -1,4 +1,5 @@
 use Rattle.std.proofs.Common.{inl, arith}
+use Rattle.std.proofs.lemmas.List.{length_push}
 use Rattle.std.proofs.lemmas.Result.{err_from_is_err_and}
 use Rattle.autfmt.proofs.ReaderSteps.{goes_on}
 use Rattle.autfmt.proofs.HideSteps.{hide_too_long, hide_ends, hide_failed, hide_good, hide_faulty}
@@ -52,3 +53,6 @@ returns-clause-line g c =
         hide_good s.0 so_far _ a _ (goes_on s.2.0) s.2.1 good c.in_ok-add.ensures.added,
       ),
     )
+
+pub returns-clause-few : goal.returns-clause-few
+returns-clause-few g c = grind (arith, length_push)
