@@ -16,9 +16,9 @@ use Rattle.partition.specs.Blocks.{IsMember}
 use Rattle.partition.specs.Sizes.{HalvesBlocks}
 use Rattle.partition.specs.Renumberings.{WereHalved, renumberings}
 use Rattle.inert.specs.Signed.{IsSignature}
-use Rattle.refine_core.specs.Signatures.{Signed, list_of, HasNoSignatures, Follows, IsAsBefore, IsSplitSignature}
+use Rattle.refine_core.specs.Signatures.{Signed, list_of, Follows, IsAsBefore, IsSplitSignature}
 use Rattle.refine_core.specs.Signatures.{CachesIds}
-use Rattle.refine_core.specs.Index.{HasIndex, SearchIsComplete}
+use Rattle.refine_core.specs.Index.{HasIndex}
 
 -- Let R be a condition on states. `OthersSatisfy` holds if each state is active (processed by the round), is in a
 -- singleton block (a block with one state), or satisfies R. The argument `states` is the number of states. The list
@@ -33,11 +33,12 @@ abbrev pub AreAllActive : Grouped → List ℕ → List ℕ → Type 0
 AreAllActive l = OthersSatisfy (λ s. row_of s l.places ≡ []) l.states
 
 -- `IsAtRound` states what holds for r, the data of a round (`Signed`), when the round begins, and also when the round
--- computes signatures. The data r must contain the block ID of each state of the system `l`. The argument `old` contains
--- the block IDs of all states in the last round. If `old` is `None`, no round has run yet, or all signatures have been
--- discarded since the last round. The blocks of r must result from splitting the blocks of the last round (`Follows`).
--- If there is no predecessor index, each state must be active (processed by the round), be in a singleton block, or have
--- no outgoing transition. If there is a predecessor index, it must be an index of the system `l` (`HasIndex`).
+-- computes signatures. The data r must contain the block ID of each state of the system `l`. The argument `old`
+-- contains the block IDs of all states in the last round. If `old` is `None`, no round has run yet, or all signatures
+-- have been discarded since the last round. The blocks of r must result from splitting the blocks of the last round
+-- (`Follows`). If there is no predecessor index, each state must be active (processed by the round), be in a singleton
+-- block, or have no outgoing transition. If there is a predecessor index, it must be an index of the system `l`
+-- (`HasIndex`).
 pub record IsAtRound (rel : Relation) (l : Grouped) (old : Option (List ℕ)) (r : Signed) : Type 0 where
   pub states : length r.blocks.block_ids ≡ l.states
   pub follows : Follows rel l old r.blocks.block_ids r.blocks.first_new
@@ -57,9 +58,9 @@ pub record Awaits (rel : Relation) (l : Grouped) (r : Signed) : Type 0 where
 -- `IsReadyToSign` holds if r, the data of a round (`Signed`), is ready for computing the signatures of the active
 -- states, which are the states that the round processes (`IsAtRound`). The field `old` contains the block IDs of all
 -- states in the last round. Each state that is neither active nor in a singleton block must have the same signature as
--- in the last round. For branching bisimilarity, the signatures of the last round must be cached (`CachesIds`). If `old`
--- is `None`, the signature of each state in the last round is taken to be empty. For branching bisimilarity, the cached
--- signature of each state must be empty in this case.
+-- in the last round. For branching bisimilarity, the signatures of the last round must be cached (`CachesIds`). If
+-- `old` is `None`, the signature of each state in the last round is taken to be empty. For branching bisimilarity, the
+-- cached signature of each state must be empty in this case.
 pub record IsReadyToSign (rel : Relation) (l : Grouped) (r : Signed) : Type 0 where
   pub old : Option (List ℕ)
   pub is : IsAtRound rel l old r
@@ -76,31 +77,6 @@ pub record MayBuildIndex (rel : Relation) (l : Grouped) (p r : Signed) : Type 0 
   pub cached : r.cached ≡ p.cached
   pub built : (r ≡ p) ⊎ (¬ (r.index ≡ None) × (r.signatures ≡ [] ∷ []))
   pub index : IfSome r.index (HasIndex rel l r.blocks.block_ids)
-
--- `Restarts` is about the step of a round that discards all signatures of earlier rounds, and then activates all states
--- that have an outgoing transition and are not in a singleton block (a block with one state). The data of the round is
--- p before the step, and r after the step. The step must not have changed the blocks, the predecessor index, and the
--- set of visited transitions. In r, all signatures except the empty signature must have been discarded. Each state of r
--- must be active (processed by the round), be in a singleton block, or have no outgoing transition.
-pub record Restarts (l : Grouped) (p r : Signed) : Type 0 where
-  pub blocks : r.blocks ≡ record p.blocks { active = r.blocks.active }
-  pub index : r.index ≡ p.index
-  pub visited : r.visited ≡ p.visited
-  pub all : AreAllActive l r.blocks.block_ids r.blocks.active
-  pub discarded : HasNoSignatures r.blocks.block_ids r.signatures r.cached
-
--- `HasSearched` holds if the round has searched the predecessor index. The data of the round is p before the search,
--- and r after the search. In r, there must be a predecessor index, and it must be an index of the system `l`
--- (`HasIndex`). The active states of r, which are the states that the round processes, must include all states that the
--- search has to find (`SearchIsComplete`). The search must not have changed the blocks, the interned signatures, and
--- the cached signature IDs.
-pub record HasSearched (rel : Relation) (l : Grouped) (p r : Signed) : Type 0 where
-  pub blocks : r.blocks ≡ record p.blocks { active = r.blocks.active }
-  pub some : ¬ (r.index ≡ None)
-  pub index : IfSome r.index (HasIndex rel l r.blocks.block_ids)
-  pub found : SearchIsComplete rel l r.blocks r.blocks.active
-  pub signatures : r.signatures ≡ p.signatures
-  pub cached : r.cached ≡ p.cached
 
 -- `SignsEach` holds if the round has computed the signatures of the active states, which are the states that the round
 -- processes. The data of the round is r. The split signature of a state is empty if the signature of the state has not

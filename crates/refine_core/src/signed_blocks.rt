@@ -1,13 +1,14 @@
 //! The data of a round of refinement: the blocks, the active states (the states that the round processes), the
 //! signatures, and the predecessor index, which stores the transitions that lead to each state.
-ghost use Rattle.std.specs.Prelude.{◌≡◌, ◌⊎◌, ℕ, ◌+◌, ◌*◌, ◌<◌, ◌≤◌, [], length, slice_index, IfOk, None};
+ghost use Rattle.std.specs.Prelude.{◌≡◌, ◌⊎◌, ℕ, ◌+◌, ◌*◌, ◌<◌, ◌≤◌, [], length, slice_index, IfOk, None, Some};
 ghost use Rattle.memory.specs.declared.limits.TheConstants.{MOST_STATES};
 ghost use Rattle.signatures.specs.Lists.{AreLists};
 ghost use Rattle.partition.specs.Partition.{AreBlocks};
 ghost use Rattle.partition.specs.Blocks.{AreActive, AreSplitBlocks, DropsSingletons, InactiveHaveNone};
 ghost use Rattle.refine_core.specs.Signatures.{HaveSignatures, HasNoSignatures};
-ghost use Rattle.refine_core.specs.IndexState.{AreAllActive, HasSearched, MayBuildIndex, Restarts};
-ghost use Rattle.refine_core.specs.Index.{HasIndex, HasVisited};
+ghost use Rattle.refine_core.specs.IndexState.{AreAllActive, Awaits, IsReadyToSign, MayBuildIndex};
+ghost use Rattle.refine_core.specs.Index.{HasVisited};
+ghost use Rattle.theory.specs.declared.relation.Relation.{Relation};
 ghost use Rattle.lts.specs.Meter.{HasRoomFor, Costs};
 
 use crate::predecessors::{Predecessors, Search};
@@ -276,18 +277,21 @@ impl SignedBlocks {
         l: &Lts<M>,
         m: &mut M,
     ) -> Result<SignedBlocks, Memory>
-        requires index { HasIndex relation l.now self.blocks.block_ids predecessors }
+        requires awaits { Awaits relation l.now (record self { index = Some predecessors }) }
         requires none { self.visited ≡ [] }
         requires room { HasRoomFor (M.counted m.old) 0 (length l.now.places) }
 
         // On success
-        ensures found { IfOk result (HasSearched relation l.now self) }
+        ensures begun { IfOk result (IsReadyToSign relation l.now) }
+        ensures blocks { IfOk result
+            (λ r. r.blocks ≡ record self.blocks { active = r.blocks.active }) }
         ensures visited { IfOk result
             (λ r. HasVisited l.now.places (M.counted m.old) (M.counted m.new) r.visited) }
 
         // Always
         ensures cost { Costs (M.counted m.old) (M.counted m.new) 0 0 (length l.now.places) }
     {
+        l.invariants();
         let search = Search {
             alloc: self.alloc,
             l,
@@ -309,7 +313,11 @@ impl SignedBlocks {
     /// block (a block with one state). The round then processes the activated states.
     pub(crate) fn activate_all<M: Meter>(self, l: &Lts<M>) -> Result<SignedBlocks, Memory>
         requires states { length self.blocks.block_ids ≡ l.now.states }
-        ensures { IfOk result (Restarts l.now self) }
+        ensures begun { IfOk result (λ r. (rel : Relation) → Awaits rel l.now self
+            → IsReadyToSign rel l.now r) }
+        ensures blocks { IfOk result
+            (λ r. r.blocks ≡ record self.blocks { active = r.blocks.active }) }
+        ensures visited { IfOk result (λ r. r.visited ≡ self.visited) }
     {
         let round = self.discard_signatures()?;
         let active = splittable_states(round.alloc, &round.blocks, l)?;

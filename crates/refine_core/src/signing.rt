@@ -137,7 +137,6 @@ pub(crate) fn begin_round<S: Signing, M: Meter>(
     // Always
     ensures cost { Costs (M.counted m.old) (M.counted m.new) 0 0 (length l.now.places) }
 {
-    l.invariants();
     let mut round = round.clear_visited();
     if round.signatures.len() > round.most_signatures {
         return round.activate_all(l);

@@ -17,12 +17,10 @@ use Rattle.refine_core.proofs.refinement.refine_blocks.Goals.{After-count-more}
 
 pub loop-before-init : goal.loop-before-init
 loop-before-init g c =
-    let l = c.args.l.now in
-    let ids = c.in_ok-blocks.blocks.block_ids in
     let blocks = c.in_ok-blocks.ensures in
     let is = c.in_ok-round.ensures.blocks ∙ c.with_active-blocks.ensures.same in
-    let one = one_block l.states ids c.states.result (sym c.states.ensures.value) blocks.one in
-    let on = c.refinement_goes_on.ensures.begun g.S.Signing.relation (system_of l) _ c.states.ensures.lts.system one in
+    let one = one_block _ _ c.states.result (sym c.states.ensures.value) blocks.one in
+    let on = c.refinement_goes_on.ensures.begun g.S.Signing.relation _ _ c.states.ensures.lts.system one in
     record {
       awaits = record {
         old = None;

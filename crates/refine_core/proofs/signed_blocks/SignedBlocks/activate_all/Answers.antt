@@ -1,5 +1,6 @@
-use Rattle.std.proofs.Common.{rules, ◌∙◌, length, ap, refl, sym, arith}
+use Rattle.std.proofs.Common.{◌∙◌, length, ap, refl, sym, arith}
 use Rattle.refine_core.proofs.Signatures.{emptied}
+use Rattle.refine_core.proofs.IndexStates.{begun_all}
 use Rattle.refine_core.proofs.signed_blocks.SignedBlocks.activate_all.Goals as goal
 
 pub invariant_of-result : goal.invariant_of-result
@@ -9,6 +10,8 @@ invariant_of-result g c =
     rw c.with_active-blocks.ensures.same
     (emptied (omega (arith, one)) (λ s h. omega (arith, one, have.each s 0 h)) refl have.states)
 
-pub returns : goal.returns
-returns g c = let discarded = rw (sym c.round.view_is) at c.in_ok-round.ensures.discarded in
-    rw c.with_active-blocks.ensures.same (search (rules, discarded))
+pub returns-clause-begun : goal.returns-clause-begun
+returns-clause-begun g c rel awaits = let round = rw (sym c.round.view_is) at c.in_ok-round.ensures in
+    rw c.with_active-blocks.ensures.same
+    (begun_all rel _ _ _ awaits (rw round.same.0 refl) c.in_ok-active.ensures.others
+    (rw (round.same.1, round.same.0) awaits.is.index) (λ _. round.discarded))
