@@ -1,6 +1,7 @@
 //! Assigns a class number to each reachable state. The class number of a state is the number of the quotient state that
 //! represents this state. The class of the first state of the system has the class number 0. The other classes have the
-//! numbers 1, 2 and so on, in the order of their least reachable members.
+//! numbers 1, 2 and so on, in the order of their least reachable members. The module also determines which label the
+//! quotient drops: the quotient leaves out all transitions that have this label and lead from a class to itself.
 ghost use Rattle.std.specs.Prelude.{◌≡◌, ◌↔◌, ℕ, ◌<◌, true, length, IfOk, OnOk};
 ghost use Rattle.theory.specs.System.{Reachable};
 ghost use Rattle.theory.specs.Quotient.{IsDropped};
@@ -83,7 +84,8 @@ struct Numbers {
 
 /// Assigns a class number to each reachable state. The class number of a state is the number of the quotient state that
 /// represents this state. The blocks must be the classes of states that are bisimilar for the relation `r`. For each
-/// reachable state, the entry in `reached` must be true, and all other entries must be false.
+/// reachable state, the entry in `reached` must be true, and all other entries must be false. The result also stores
+/// the ID of the label that the quotient drops (`Numbering::dropped`).
 pub(crate) fn number<M: Meter>(
     alloc: Global,
     l: &Lts<M>,

@@ -139,7 +139,7 @@ pub record MarksFound (states : ℕ) (at : Affected) : Type 0 where
 -- had room for one visit of each transition.
 pub record SearchIsOn (l : Grouped) (of : List ℕ) (rel : Relation) (start now : Counts) (at : Affected) (xs : List ℕ) :
     Type 0 where
-  pub has : HasIndex rel l of at.index
+  pub index : HasIndex rel l of at.index
   pub marked : MarksFound (length of) at
   pub visited : HasVisited l.places start now xs
   pub room : HasRoomFor start 0 (length l.places)

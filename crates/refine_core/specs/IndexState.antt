@@ -70,8 +70,8 @@ pub record IsReadyToSign (rel : Relation) (l : Grouped) (r : Signed) : Type 0 wh
 
 -- `MayBuildIndex` is about the step of a round that may build the predecessor index. The data of the round is p before
 -- the step, and r after the step. The step must not have changed the blocks and the cached signature IDs. Either the
--- step must not have changed any data, or r must contain an index, and the step must have discarded all interned
--- signatures except the empty signature. If r contains an index, it must be an index of the system `l` (`HasIndex`).
+-- step must not have changed any data; or it must have discarded all interned signatures except the empty signature,
+-- and r must contain an index. If r contains an index, it must be an index of the system `l` (`HasIndex`).
 pub record MayBuildIndex (rel : Relation) (l : Grouped) (p r : Signed) : Type 0 where
   pub blocks : r.blocks ≡ p.blocks
   pub cached : r.cached ≡ p.cached
