@@ -143,10 +143,3 @@ pub record SearchIsOn (l : Grouped) (of : List ℕ) (rel : Relation) (start now 
   pub marked : MarksFound (length of) at
   pub visited : HasVisited l.places start now xs
   pub room : HasRoomFor start 0 (length l.places)
-
--- `ReadsRows` holds if both of the following conditions hold. First, the list `of` contains a block ID for each state.
--- Second, the list `visited` contains places (indices) of transitions, and contains no place twice (`AreVisited`). The
--- functions that compute strong signatures from the transitions of states require `ReadsRows`.
-pub record ReadsRows (l : Grouped) (of visited : List ℕ) : Type 0 where
-  pub states : length of ≡ l.states
-  pub are : AreVisited l.places visited

@@ -10,8 +10,8 @@ ghost use Rattle.lts.specs.Visited.{remaining_of};
 ghost use Rattle.signatures.specs.Lists.{list_at, Grow};
 ghost use Rattle.partition.specs.Blocks.{IsMember, HaveSignatureIds};
 ghost use Rattle.inert.specs.Signed.{pair_under};
+ghost use Rattle.inert.specs.Steps.{FitsSystem, under as inputs};
 ghost use Rattle.refine_core.specs.Signatures.{list_of, HaveSignatures, HasNewBlock, IsStrongSplitSignature};
-ghost use Rattle.refine_core.specs.Index.{ReadsRows};
 
 use crate::signed_blocks::SignedBlocks;
 use crate::signing::Signing;
@@ -68,7 +68,7 @@ fn sign_active<M: Meter>(
     signature_ids: &mut Vec<u32>,
     m: &mut M,
 ) -> Result<(), Memory>
-    requires reads { ReadsRows under.now.l.now under.now.block_ids.now visited.now }
+    requires reads { FitsSystem (inputs under.now.l.now under.now.block_ids.now visited.now) }
     requires signatures { signatures.old ≡ [] ∷ [] }
     requires signature_ids { HaveSignatureIds under.now.l.now.states active.now
         signature_ids.old.items }
@@ -109,7 +109,7 @@ fn intern_signature<M: Meter>(
     signatures: &mut Interner,
     m: &mut M,
 ) -> Result<u32, Memory>
-    requires reads { ReadsRows under.now.l.now under.now.block_ids.now visited.now }
+    requires reads { FitsSystem (inputs under.now.l.now under.now.block_ids.now visited.now) }
     requires state { s < under.now.l.now.states }
     requires room { HasRoomFor (M.counted m.old) 0
         (length (row_of s (remaining_of visited.now under.now.l.now.places))) }
@@ -143,7 +143,7 @@ fn read_unvisited<M: Meter>(
     pairs: &mut Vec<(u32, u32)>,
     m: &mut M,
 ) -> Result<bool, Memory>
-    requires reads { ReadsRows under.now.l.now under.now.block_ids.now visited.now }
+    requires reads { FitsSystem (inputs under.now.l.now under.now.block_ids.now visited.now) }
     requires state { s < under.now.l.now.states }
     requires room { HasRoomFor (M.counted m.old) 0
         (length (row_of s (remaining_of visited.now under.now.l.now.places))) }

@@ -69,6 +69,6 @@ returns-clause-signature_ids g c =
     let end : length c.args.active.now ≤ c.loop-i.i = omega (arith, c.loop-i-test.false, c.loop-i.auto.i-end) in
     record {
       each = λ s d h. grind (arith, get_or_default _ s d 0 h, inv.none s h, inv.put, inv.some);
-      states = inv.states ∙ sym c.requires.reads.states;
+      states = inv.states ∙ sym c.requires.reads.size;
       none = inv.none;
     }
