@@ -19,21 +19,15 @@ use Rattle.partition.specs.Splitting.{IsSingleton}
 use Rattle.partition.specs.Blocks.{RoundBlocks, AreActive, IsMember}
 use Rattle.refine_core.specs.declared.predecessors.Affected.{Affected}
 
--- `IsInner` is about the transition at the place p (its index in the list of all transitions). It holds if both of the
--- following conditions hold. First, the source and the target of the transition are in the same block. Second, the
--- relation is branching bisimilarity, for which a search goes back along inert transitions.
-abbrev pub IsInner : Relation → Grouped → List ℕ → ℕ → Type 0
-IsInner rel l of p = (rel ≡ Branching)
-    × (slice_index of (source_of (place_at l.places p)) ≡ slice_index of (target_of (place_at l.places p)))
-
 -- `HasIndex` holds if both of the following conditions hold. First, the list `of` contains the block ID of each state
 -- of the system `l`. Second, x is a correct predecessor index of this system (`IsIndex`): it stores, for each state,
 -- the transitions that lead to this state. For branching bisimilarity, the index must also store the inert transitions
--- to each state separately, in the internal group of this state. The internal group may also contain internal
--- transitions that are not inert.
+-- to each state separately, in the internal group of this state. An internal transition is inert if its source and its
+-- target are in the same block. The internal group may also contain internal transitions that are not inert.
 pub record HasIndex (rel : Relation) (l : Grouped) (of : List ℕ) (x : Entries) : Type 0 where
   pub states : length of ≡ l.states
-  pub index : IsIndex l (IsInner rel l of) x
+  pub index : IsIndex l (λ p. let e = place_at l.places p in
+      (rel ≡ Branching) × (slice_index of (source_of e) ≡ slice_index of (target_of e))) x
 
 -- `IsFoundOrSingleton` holds if the state s is in the list `found` of the states that a search has found, or if s is in
 -- a singleton block (a block with one state).
