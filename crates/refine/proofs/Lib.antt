@@ -1,3 +1,4 @@
 pub mod Listing
 pub mod Filling
 pub mod Searching
+pub mod Spending

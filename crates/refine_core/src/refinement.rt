@@ -1,5 +1,5 @@
 //! The loop over the rounds of refinement. The loop ends after the first round that splits no block.
-ghost use Rattle.std.specs.Prelude.{◌≡◌, ◌↔◌, ℕ, ◌*◌, ◌≤◌, length, slice_index, IfOk, OnOk, OnErr};
+ghost use Rattle.std.specs.Prelude.{◌≡◌, ◌↔◌, ℕ, ◌+◌, ◌*◌, ◌≤◌, length, slice_index, IfOk, OnOk, OnErr};
 ghost use Rattle.theory.specs.Bisimulation.{Bisimilar};
 ghost use Rattle.theory.specs.Blocks.{Turns, EachTwo};
 ghost use Rattle.lts.specs.Meter.{HasRoomFor, Costs, CostsUpTo};
@@ -90,8 +90,9 @@ pub fn refine<S: Signing, M: Meter>(
 }
 
 /// Makes one round: finds the active states (the states that the round processes), computes their signatures, and
-/// splits the blocks by these signatures (`Split`). If the call fails, the meter has counted at most one round. The
-/// number of visits (reads of transitions that the meter counts) is then at most the number of transitions.
+/// splits the blocks by these signatures (`Split`). The meter counts one round, even if the call fails. The number of
+/// visits (reads of transitions that the meter counts) is at most the number of transitions. If the call succeeds, the
+/// two numbers are equal.
 fn next_round<S: Signing, M: Meter>(
     round: SignedBlocks,
     l: &Lts<M>,
@@ -103,12 +104,11 @@ fn next_round<S: Signing, M: Meter>(
     // On success
     ensures next { IfOk result (IsNextRound S.relation l.now round.blocks.block_ids
         round.blocks.count) }
-    ensures costs { let n = length l.now.places in
-        OnOk result (Costs (M.counted m.old) (M.counted m.new) 1 n n) }
+    ensures visits { OnOk result
+        ((M.counted m.old).visits + length l.now.places ≤ (M.counted m.new).visits) }
 
-    // On failure
-    ensures err { OnErr result
-        (CostsUpTo (M.counted m.old) (M.counted m.new) 1 (length l.now.places)) }
+    // Always
+    ensures costs { Costs (M.counted m.old) (M.counted m.new) 1 0 (length l.now.places) }
 {
     l.invariants();
     m.start_round();

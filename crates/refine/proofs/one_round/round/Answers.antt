@@ -1,6 +1,7 @@
 use Rattle.std.proofs.Common.{◌∙◌, arith, rules}
 use Rattle.std.proofs.lemmas.Result.{IfOk-weaker}
-use Rattle.refine_core.proofs.CallerLemmas.{Labelled, equal_lists, begun_up_to, on_ok_from, on_err_from}
+use Rattle.refine_core.proofs.CallerLemmas.{Labelled, equal_lists}
+use Rattle.refine.proofs.Spending.{begun_up_to, on_ok_from, on_err_from}
 use Rattle.refine.proofs.one_round.round.Goals as goal
 
 pub returns-in_err-fill-clause-err : goal.returns-in_err-fill-clause-err

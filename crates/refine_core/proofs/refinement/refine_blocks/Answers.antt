@@ -1,13 +1,12 @@
-use Rattle.std.proofs.Common.{◌≡◌, suc, ◌+◌, ◌*◌, ◌≤◌, [], ◌∷◌, length, slice_index, None, ap, sym, ◌∙◌, arith}
-use Rattle.std.proofs.Common.{inl, inr}
+use Rattle.std.proofs.Common.{◌≡◌, suc, ◌*◌, [], ◌∷◌, length, slice_index, None, ap, sym, ◌∙◌, arith}
+use Rattle.std.proofs.Common.{inl, inr, rules}
 use Rattle.std.proofs.Math.Logic.{⊎_map}
 use Rattle.std.proofs.lemmas.Nat.{mul-le}
-use Rattle.std.proofs.Math.Nat.{suc-mul, add-mul}
+use Rattle.std.proofs.Math.Nat.{suc-mul}
 use Rattle.theory.specs.Blocks.{Turns}
-use Rattle.lts.specs.Meter.{Costs}
+use Rattle.lts.specs.Meter.{Costs, CostsUpTo}
 use Rattle.lts.specs.Lts.{system_of}
 use Rattle.refine_core.specs.IndexState.{IsNextRound, AreRounds}
-use Rattle.refine_core.proofs.Spending.{on_err_from}
 use Rattle.partition.specs.Blocks.{RoundBlocks}
 use Rattle.partition.specs.Renumberings.{WereHalved}
 use Rattle.partition.proofs.CallerLemmas.{one_block, halved}
@@ -66,10 +65,10 @@ next_round-requires-clause-room g c =
 pub returns-in_err-next-clause-err : goal.returns-in_err-next-clause-err
 returns-in_err-next-clause-err g c =
     let made = c.loop-before.invariant.made in
-    let (r, few, one) = c.in_err-next.ensures.err in
-    let most : made.rounds + r ≤ c.args.l.now.states = omega (arith, made.fewer, few) in
-    let visits = add-mul made.rounds r (length c.args.l.now.places) in
-    on_err_from c.from_residual-in_err-next.result (made.rounds + r, most, omega (arith, made.costs, one, visits))
+    let n = length c.args.l.now.places in
+    let most : CostsUpTo (g.M.Meter.counted c.args.m.now) (g.M.Meter.counted c.next_round.new.m) c.args.l.now.states n
+    = (suc made.rounds, made.fewer, omega (arith, suc-mul made.rounds n, made.costs, c.next_round.ensures.costs)) in
+    search rules
 
 -- The following lemmas assume that a round was made. Before this round, some states in singleton blocks (blocks with
 -- one state) may have been dropped from the active states, which are the states that the round processes.
@@ -91,7 +90,8 @@ module _ (g : Over) (c : After-count-more g) where
   costs : let k = suc c.loop-before.invariant.made.rounds in let n = length c.args.l.now.places in
       Costs (g.M.Meter.counted c.args.m.now) (g.M.Meter.counted c.next_round.new.m) k (k * n) (k * n)
   costs = let made = c.loop-before.invariant.made in
-      omega (arith, suc-mul made.rounds (length c.args.l.now.places), made.costs, c.in_ok-next.ensures.costs)
+      let visits = suc-mul made.rounds (length c.args.l.now.places) in
+      omega (arith, visits, made.costs, c.next_round.ensures.costs, c.in_ok-next.ensures.visits)
 
   -- Each earlier round has split a block. Suppose that this round has split no block. Then this round is the first
   -- round that has split no block, so `Turns` holds for the number of all rounds, including this round.

@@ -1,6 +1,7 @@
 use Rattle.std.proofs.Common.{rules, ◌∙◌, [], sym}
 use Rattle.std.proofs.lemmas.List.{append-nil}
-use Rattle.refine_core.proofs.CallerLemmas.{row_signature, on_err_from}
+use Rattle.refine_core.proofs.CallerLemmas.{row_signature}
+use Rattle.refine.proofs.Spending.{on_err_from}
 use Rattle.refine.proofs.sense.StrongSense.signature.Goals as goal
 
 pub returns-in_err-extend_from_slice-clause-extends : goal.returns-in_err-extend_from_slice-clause-extends
