@@ -3,18 +3,16 @@
 -- what must hold for the data of a round at three times: when the round begins, when it computes signatures, and when
 -- it has split the blocks. The definitions make sure that states that are not active need not be processed. The last
 -- definitions of this file are about one round as a whole, and about the blocks that several rounds make.
-use Rattle.std.specs.Prelude.{◌≡◌, ◌⊎◌, ◌↔◌, ℕ, ◌*◌, ◌^◌, ◌<◌, ◌≤◌, List, [], ◌∷◌, length, slice_index}
+use Rattle.std.specs.Prelude.{◌≡◌, ◌⊎◌, ◌↔◌, ℕ, ◌^◌, ◌<◌, ◌≤◌, List, [], ◌∷◌, length, slice_index}
 use Rattle.std.specs.Prelude.{Option, None, Some, IfSome}
 use Rattle.theory.specs.declared.relation.Relation.{Relation}
 use Rattle.theory.specs.declared.relation.Relation.TheVariants.{Branching}
 use Rattle.theory.specs.System.{System}
-use Rattle.theory.specs.Blocks.{Split, SameBlocks, OneBlock, Underway}
-use Rattle.lts.specs.Meter.{Counts, Costs}
+use Rattle.theory.specs.Blocks.{Split, SameBlocks, OneBlock}
 use Rattle.lts.specs.Lts.{Grouped, row_of, system_of}
-use Rattle.partition.specs.Splitting.{IsSingleton, Splits}
+use Rattle.partition.specs.Splitting.{IsSingleton}
 use Rattle.partition.specs.Blocks.{IsMember}
-use Rattle.partition.specs.Sizes.{HalvesBlocks}
-use Rattle.partition.specs.Renumberings.{WereHalved, renumberings}
+use Rattle.partition.specs.Renumberings.{SplitsByHalves, renumberings}
 use Rattle.inert.specs.Signed.{IsSignature}
 use Rattle.refine_core.specs.Signatures.{Signed, list_of, Follows, IsAsBefore, IsSplitSignature}
 use Rattle.refine_core.specs.Signatures.{CachesIds}
@@ -103,15 +101,14 @@ pub record SignsRound (rel : Relation) (l : Grouped) (p r : Signed) : Type 0 whe
   pub signs : (ready : IsReadyToSign rel l p) → SignsEach rel l ready.old r
 
 -- `IsNextRound` holds if q is the data after one round that started with the block IDs `of`. Splitting the blocks `of`
--- by signatures must result in the blocks of q (`Split`). Before the round, there were `count` blocks, whose IDs were
--- less than `count`. So a block of q is new if its ID is at least `count`. Each state must keep its block ID, or be in
--- a new block (`Splits`). Each new block must contain at most half of the states of the old block that it comes from
--- (`HalvesBlocks`). The data q must be ready for the next round (`Awaits`). The number of blocks must be the same
--- before and after the round if and only if the partition is the same before and after the round.
+-- by signatures must result in the blocks of q (`Split`). No state may be in a larger block than before the round. If
+-- the block ID of a state changes, the new block of the state must have at most half the size of the old block
+-- (`SplitsByHalves`). The data q must be ready for the next round (`Awaits`). Before the round, there were `count`
+-- blocks. The number of blocks must be the same before and after the round if and only if the partition is the same
+-- before and after the round.
 pub record IsNextRound (rel : Relation) (l : Grouped) (of : List ℕ) (count : ℕ) (q : Signed) : Type 0 where
   pub split : Split rel (system_of l) (slice_index of) (slice_index q.blocks.block_ids)
-  pub parts : (ids : List ℕ) × Splits of count (slice_index ids) q.blocks.block_ids q.blocks.count
-  pub halves : HalvesBlocks of count q.blocks.block_ids
+  pub halves : SplitsByHalves of q.blocks.block_ids
   pub awaits : Awaits rel l q
   pub same : (q.blocks.count ≡ count) ↔ SameBlocks (system_of l) (slice_index of) (slice_index q.blocks.block_ids)
 
@@ -132,18 +129,3 @@ pub record RenumbersFew (rel : Relation) (A : System) (blocks : List ℕ) : Type
   pub rounds : AreRounds rel A last past
   pub same : SameBlocks A (slice_index last) (slice_index blocks)
   pub few : (s : ℕ) → s < A.states → 2 ^ renumberings last past s ≤ A.states
-
--- `Made` holds if a sequence of rounds has led from the partition with only one block to the partition `blocks`. Each
--- of these rounds must have split at least one block, and there must be fewer rounds than states. After each round, no
--- state may be in a larger block than before this round. If the block ID of a state changes in a round, the new block
--- of the state must have at most half the size of the old block (`WereHalved`). The meter must have counted each round
--- of the sequence. A visit is a read of a transition that the meter counts. The number of visits in all these rounds
--- together must be the number of the rounds times the number of transitions. The meter had the counts `old` before the
--- first round, and has the counts `at` after the last round.
-pub record Made (rel : Relation) (l : Grouped) (old at : Counts) (blocks : List ℕ) : Type 0 where
-  pub rounds : ℕ
-  pub fewer : rounds < l.states
-  pub past : List (List ℕ)
-  pub were : AreRounds rel (system_of l) blocks past × WereHalved blocks past
-  pub underway : Underway rel (system_of l) rounds (slice_index blocks)
-  pub costs : Costs old at rounds (rounds * length l.places) (rounds * length l.places)

@@ -9,7 +9,7 @@ use Rattle.lts.specs.Lts.{system_of}
 use Rattle.refine_core.specs.IndexState.{IsNextRound, AreRounds}
 use Rattle.partition.specs.Blocks.{RoundBlocks}
 use Rattle.partition.specs.Renumberings.{WereHalved}
-use Rattle.partition.proofs.CallerLemmas.{one_block, halved}
+use Rattle.partition.proofs.CallerLemmas.{one_block}
 use Rattle.refine_core.proofs.refinement.refine_blocks.Goals as goal
 use Rattle.refine_core.proofs.refinement.refine_blocks.Given.{Over}
 use Rattle.refine_core.proofs.refinement.refine_blocks.Goals.{After-count-more}
@@ -81,11 +81,7 @@ module _ (g : Over) (c : After-count-more g) where
 
   were : let of = c.in_ok-next.next.blocks.block_ids in let past = old.block_ids ∷ c.loop-before.invariant.made.past in
       AreRounds g.S.Signing.relation (system_of c.args.l.now) of past × WereHalved of past
-  were = let made = c.loop-before.invariant.made in
-      let parts = next.parts.1 in
-      let half = halved old.block_ids c.in_ok-next.next.blocks.block_ids old.count parts.states parts.stays
-      next.halves in
-      ((next.split, made.were.0), (half, made.were.1))
+  were = let made = c.loop-before.invariant.made in ((next.split, made.were.0), (next.halves, made.were.1))
 
   costs : let k = suc c.loop-before.invariant.made.rounds in let n = length c.args.l.now.places in
       Costs (g.M.Meter.counted c.args.m.now) (g.M.Meter.counted c.next_round.new.m) k (k * n) (k * n)
