@@ -1,10 +1,11 @@
 use Rattle.std.proofs.Common.{◌≡◌, sym, inl, inr, arith}
-use Rattle.refine_core.proofs.Searching.{live_less, live_more, no_row}
+use Rattle.std.proofs.lemmas.List.{nil_from_length}
+use Rattle.refine_core.proofs.Searching.{live_less, live_more}
 use Rattle.refine_core.proofs.signed_blocks.splittable_states.Goals as goal
 
 pub loop-s-preserved-then-start-end : goal.loop-s-preserved-then-start-end
 loop-s-preserved-then-start-end g c =
-    live_less (inr (no_row c.row-start.ensures c.if-start-end.true)) c.loop-s.invariant
+    live_less (inr (nil_from_length _ (omega (arith, c.row-start.ensures.count, c.if-start-end.true)))) c.loop-s.invariant
 
 pub loop-s-preserved-then-is_singleton : goal.loop-s-preserved-then-is_singleton
 loop-s-preserved-then-is_singleton g c = live_less (inl (c.is_singleton.ensures.0 c.if-is_singleton.true))
