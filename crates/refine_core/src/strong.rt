@@ -82,9 +82,8 @@ fn sign_active<M: Meter>(
     ensures cost { Costs (M.counted m.old) (M.counted m.new) 0 0
         (length (remaining_of visited.now under.now.l.now.places)) }
 {
-    for i in 0..active.len() {
-        let s = active[i];
-        signature_ids[s as usize] = intern_signature(under, visited, s, pairs, signatures, m)?;
+    for s in active {
+        signature_ids[*s as usize] = intern_signature(under, visited, *s, pairs, signatures, m)?;
     }
     Ok(())
 }

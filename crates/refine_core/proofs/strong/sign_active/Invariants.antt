@@ -7,15 +7,15 @@ use Rattle.refine_core.specs.Signatures.{IsStrongSplitSignature}
 use Rattle.refine_core.proofs.StrongSignatures.{HasGot}
 use Rattle.refine_core.proofs.strong.sign_active.Given as goal
 
-abbrev pub invariant-loop-i : goal.invariant-loop-i
-invariant-loop-i g l = record {
-  put : (j : ℕ) → j < l.i → HasGot
+abbrev pub invariant-loop-s : goal.invariant-loop-s
+invariant-loop-s g l = record {
+  put : (j : ℕ) → j < l.s-index → HasGot
       (IsStrongSplitSignature l.under.l.now l.under.block_ids.now l.under.first_new) l.signatures
       l.signature_ids.items (slice_index l.active j);
   states : length l.signature_ids.items ≡ l.under.l.now.states;
   none : InactiveHaveNone l.active l.signature_ids.items;
   some : 1 ≤ length l.signatures;
-  visits : (next : ℕ) × ((j : ℕ) → l.i ≤ j → j < length l.active → next ≤ slice_index l.active j)
+  visits : (next : ℕ) × ((j : ℕ) → l.s-index ≤ j → j < length l.active → next ≤ slice_index l.active j)
       × Costs (g.M.Meter.counted l.fn.m) (g.M.Meter.counted l.m) 0 0
       (before next (remaining_of l.visited l.under.l.now.places));
 }
