@@ -12,20 +12,20 @@ use Rattle.std.proofs.Math.Logic.{⊎_map}
 use Rattle.std.proofs.lemmas.List.{get_or_default, take_at}
 use Rattle.theory.specs.declared.relation.Relation.{Relation}
 use Rattle.theory.specs.declared.relation.Relation.TheVariants.{Strong, Branching}
-use Rattle.theory.specs.Blocks.{SameSignature, Split}
+use Rattle.theory.specs.Blocks.{SameSignature}
 use Rattle.theory.specs.Unaffected.{HasEmptySignature}
 use Rattle.theory.proofs.CallerLemmas.{empty_before}
 use Rattle.lts.specs.Labels.{text_of, IsLabelId}
 use Rattle.lts.specs.Lts.{Grouped, IsLts, system_of}
-use Rattle.signatures.specs.Lists.{AreLists, AreIds, list_at}
-use Rattle.signatures.proofs.CallerLemmas.{ascending_unique}
+use Rattle.signatures.specs.Lists.{AreLists, AreIds, list_at, pair_cmp}
+use Rattle.signatures.proofs.CallerLemmas.{ascending_none, ascending_unique}
 use Rattle.partition.specs.Splitting.{IsSingleton, Splits}
 use Rattle.partition.specs.Blocks.{IsMember, InactiveHaveNone}
 use Rattle.inert.specs.Signed.{CachesBeside, SignsActive, IsSignature}
-use Rattle.refine_core.specs.Signatures.{Signed, HaveSignatures, list_of, Was, IsAsBefore, IsSplitSignature, Follows}
-use Rattle.refine_core.specs.Signatures.{IsListOf}
-use Rattle.refine_core.specs.IndexState.{IsReadyToSign, SignsEach}
-use Rattle.refine_core.proofs.StrongSignatures.{Labelled, labels_have_ids}
+use Rattle.refine_core.specs.Signatures.{Signed, HaveSignatures, list_of, Was, IsAsBefore, Follows, IsListOf}
+use Rattle.refine_core.specs.Signatures.{IsStrongSplitSignature}
+use Rattle.refine_core.specs.IndexState.{IsReadyToSign, SignsRound}
+use Rattle.refine_core.proofs.StrongSignatures.{Labelled, labels_have_ids, unaffected_as_before, as_before_unaffected}
 
 -- Suppose that the list `signature_ids` contains the ID of an interned signature for each of the n states. Suppose that
 -- the list contains the ID of the empty signature for each state that is not active (not processed by the round).
@@ -103,58 +103,97 @@ was_alike : (rel : Relation) (l : Grouped) (old : Option (List ℕ)) (of : List 
 was_alike rel l None of low was s t ls lt one a b = (λ h. h, λ h. h)
 was_alike rel l (Some old) of low was s t ls lt one a b = ((was.split s t ls lt).0 one).1 a b
 
--- In the following lemmas, the list `shown s` stands for the split signature of the state s. The split signature of s
--- is empty if the signature of s has not changed since the last round, and otherwise it is the new signature.
-module _ (rel : Relation) (l : Grouped) (labelled : Labelled l) (old : Option (List ℕ)) (of : List ℕ) (low : ℕ)
-    (size : length of ≡ l.states) (was : Follows rel l old of low) (shown : ℕ → List (ℕ × ℕ)) where
-  -- `Each` holds if the state s is in a singleton block (a block with one state), or if the list `shown s` is the split
-  -- signature of s. The split signature of s is empty if the signature of s has not changed since the last round, and
-  -- otherwise it is the new signature.
-  abbrev Each : ℕ → Type 0
-  Each s = IsSingleton of s ⊎ IsSplitSignature rel l old of s (shown s)
+-- `IsSplitSignature` holds if `list` is the split signature of the state s. If the signature of s is the same as in the
+-- last round, `list` must be empty. Otherwise, `list` must be the new signature of s, and must not be empty.
+abbrev IsSplitSignature : Relation → Grouped → Option (List ℕ) → List ℕ → ℕ → List (ℕ × ℕ) → Type 0
+IsSplitSignature rel l old of s list = ((list ≡ []) × IsAsBefore rel l old of s)
+    ⊎ (¬ (list ≡ []) × ¬ IsAsBefore rel l old of s × IsSignature rel l of s list)
 
-  -- `Tells` is about the lists `shown s` and `shown t`, which stand for the split signatures of the states s and t. It
-  -- holds if these two lists are equal if and only if the signatures of s and t are equal.
+-- Let r be the data of a round (`Signed`) that is ready for computing signatures (`IsReadyToSign`). The following
+-- lemmas assume that, for each active state (each state that the round processes), `signature_ids` contains the ID of
+-- the split signature of this state, and that it contains the ID of the empty signature for each other state. The split
+-- signature of an active state in a singleton block (a block with one state) may be any list.
+module _ (rel : Relation) (l : Grouped) (lts : IsLts l) (r : Signed) (ready : IsReadyToSign rel l r)
+    (signatures : List (List (ℕ × ℕ))) (signature_ids : List ℕ) (first : list_at signatures 0 ≡ [])
+    (have : length signature_ids ≡ l.states) (none : InactiveHaveNone r.blocks.active signature_ids)
+    (given : (s : ℕ) → s < l.states → IsMember r.blocks.active s → IsSingleton r.blocks.block_ids s
+    ⊎ IsSplitSignature rel l ready.old r.blocks.block_ids s (list_of signatures signature_ids s)) where
+  abbrev blocks : List ℕ
+  blocks = r.blocks.block_ids
+
+  abbrev shown : ℕ → List (ℕ × ℕ)
+  shown = list_of signatures signature_ids
+
+  -- `Each` holds if the state s is in a singleton block (a block with one state), or if the list `shown s` is the split
+  -- signature of s.
+  abbrev Each : ℕ → Type 0
+  Each s = IsSingleton blocks s ⊎ IsSplitSignature rel l ready.old blocks s (shown s)
+
+  -- `Tells` holds if the lists `shown s` and `shown t` are equal if and only if the signatures of the states s and t
+  -- are equal.
   abbrev Tells : ℕ → ℕ → Type 0
-  Tells s t = (shown s ≡ shown t) ↔ SameSignature rel (system_of l) (slice_index of) s t
+  Tells s t = (shown s ≡ shown t) ↔ SameSignature rel (system_of l) (slice_index blocks) s t
 
   one_state : (s t : ℕ) → s ≡ t → Tells s t
   one_state s t e = subst (Tells s) e (λ h a b. (λ p. p, λ p. p), λ h. refl)
 
   -- Suppose that the states s and t share a block. Suppose that the signature of s is the same as in the last round,
   -- and that the signature of t has changed. Then the signatures of s and t are not equal.
-  differ : (s t : ℕ) → s < l.states → t < l.states → slice_index of s ≡ slice_index of t → IsAsBefore rel l old of s
-      → ¬ IsAsBefore rel l old of t → ¬ SameSignature rel (system_of l) (slice_index of) s t
-  differ s t ls lt one p q same =
-      q (λ a b. grind (arith, p a b, same a b, was_alike rel l old of low was s t ls lt one a b))
+  differ : (s t : ℕ) → s < l.states → t < l.states → slice_index blocks s ≡ slice_index blocks t
+      → IsAsBefore rel l ready.old blocks s → ¬ IsAsBefore rel l ready.old blocks t
+      → ¬ SameSignature rel (system_of l) (slice_index blocks) s t
+  differ s t ls lt one p q same = q (λ a b. grind
+      (arith, p a b, same a b, was_alike rel l ready.old blocks _ ready.is.follows s t ls lt one a b))
 
-  -- The split signature of a state is empty if the signature of the state has not changed since the last round, and
-  -- otherwise it is the new signature. Suppose that the states s and t share a block. Then the split signatures of s
-  -- and t are equal if and only if the signatures of s and t are equal.
-  told : (s t : ℕ) → s < l.states → t < l.states → slice_index of s ≡ slice_index of t → Each s → Each t → Tells s t
-  told s t ls lt one (inl only) y = one_state s t (sym (only t (omega (arith, lt, size)) (sym one)))
-  told s t ls lt one (inr x) (inl only) = one_state s t (only s (omega (arith, ls, size)) one)
+  -- Suppose that the states s and t share a block. Then the split signatures of s and t are equal if and only if the
+  -- signatures of s and t are equal.
+  told : (s t : ℕ) → s < l.states → t < l.states → slice_index blocks s ≡ slice_index blocks t → Each s → Each t
+      → Tells s t
+  told s t ls lt one (inl only) y = one_state s t (sym (only t (omega (arith, lt, ready.is.states)) (sym one)))
+  told s t ls lt one (inr x) (inl only) = one_state s t (only s (omega (arith, ls, ready.is.states)) one)
   told s t ls lt one (inr (inl p)) (inr (inl q)) = (
-    λ h a b. grind (arith, p.1 a b, q.1 a b, was_alike rel l old of low was s t ls lt one a b),
+    λ h a b. grind
+        (arith, p.1 a b, q.1 a b, was_alike rel l ready.old blocks _ ready.is.follows s t ls lt one a b),
     λ h. p.0 ∙ sym q.0,
   )
   told s t ls lt one (inr (inl p)) (inr (inr q)) = grind (arith, p.0, q.0, differ s t ls lt one p.1 q.1)
   told s t ls lt one (inr (inr p)) (inr (inl q)) =
       (λ h. absurd (p.0 (h ∙ q.0)), λ h. absurd (differ t s lt ls (sym one) q.1 p.1 (λ a b. ((h a b).1, (h a b).0))))
-  told s t ls lt one (inr (inr p)) (inr (inr q)) = equal_lists rel l labelled of s t _ _ p.2 q.2
+  told s t ls lt one (inr (inr p)) (inr (inr q)) =
+      equal_lists rel l (labels_have_ids l lts) blocks s t _ _ p.2 q.2
 
-  -- The split signature of a state is empty if the signature of the state has not changed since the last round, and
-  -- otherwise it is the new signature. Suppose that blocks are split by split signatures: two states share a block
-  -- after the split if and only if they shared a block before the split and have equal split signatures. Then two
-  -- states share a block after the split if and only if they shared a block before the split and have equal signatures
-  -- (`Split`).
-  pub split_by_split_signatures : ((s : ℕ) → s < l.states → Each s) → (next : ℕ → ℕ)
-      → ((s t : ℕ) → s < l.states → t < l.states
-      → (next s ≡ next t) ↔ ((slice_index of s ≡ slice_index of t) × (shown s ≡ shown t)))
-      → Split rel (system_of l) (slice_index of) next
-  split_by_split_signatures each next split s t ls lt =
-      let tells = λ (one : slice_index of s ≡ slice_index of t). told s t ls lt one (each s ls) (each t lt) in
-      grind (arith, split s t ls lt, tells)
+  each : (s : ℕ) → s < l.states → Each s
+  each s h = grind (arith, ready.others s h, none s, given s h, have, first)
+
+  tells : (s t : ℕ) → s < l.states → t < l.states → slice_index blocks s ≡ slice_index blocks t → Tells s t
+  tells s t ls lt one = told s t ls lt one (each s ls) (each t lt)
+
+-- Let r be the data of a round that is ready for computing strong signatures (`IsReadyToSign`). Suppose that, for each
+-- active state (each state that the round processes), the list `signature_ids` contains the ID of the split signature
+-- of the state. Suppose that, for each other state, this list contains the ID of the empty signature. Then the round
+-- has computed the signatures correctly (`SignsRound`).
+pub strong_signs : (l : Grouped) → IsLts l → (r : Signed) → IsReadyToSign Strong l r
+    → (signatures : List (List (ℕ × ℕ))) (signature_ids : List ℕ) → list_at signatures 0 ≡ []
+    → length signature_ids ≡ l.states → InactiveHaveNone r.blocks.active signature_ids
+    → ((s : ℕ) → IsMember r.blocks.active s → IsStrongSplitSignature l r.blocks.block_ids r.blocks.first_new s
+    (list_of signatures signature_ids s))
+    → SignsRound Strong l r (record r { signatures = signatures; signature_ids = signature_ids })
+strong_signs l lts r ready signatures signature_ids first have none put = record {
+  blocks = refl;
+  index = refl;
+  tells = tells Strong l lts r ready signatures signature_ids first have none (λ s h one. inr (⊎_map
+      (λ p. (p.0, unaffected_as_before l lts.system ready.old _ _ ready.is.follows s p.1))
+      (λ q. (q.0, λ same. q.1 (as_before_unaffected l lts.system ready.old _ _ ready.is.follows s same), q.2))
+      (put s one)));
+  cached = λ is. absurd cc;
+  first = λ all _ s one. elim (put s one) [
+    | inl (nil, still) ↦ rw nil (record {
+      exactly = λ k b. (λ c. absurd (omega (arith, c.1)), λ p. absurd (omega (arith, still _ p.1.0 p.1.1, all refl)));
+      ascending = ascending_none pair_cmp;
+    })
+    | inr changed ↦ changed.2
+  ];
+}
 
 -- Suppose that the blocks result from splitting the blocks of the last round (`Follows`), and that the branching
 -- signature of a state is empty. Then the branching signature of this state in the last round was empty, too.
@@ -243,8 +282,10 @@ module _ (l : Grouped) (r : Signed) (ready : IsReadyToSign Branching l r) where
           let shows : HasEmptySignature (system_of l) (slice_index of) s = λ a b can.
           let (k, number) = label_id_of l labelled Branching (Some of) s a b can in
           let c = ((signs.signed s one).exactly k b).1 (number.below, rw number.text can) in
-          omega (arith, (rw nil at c).1) in
-          (λ can. absurd (shows a b can), λ can. absurd (empty_was l lts ready.old of _ ready.is.follows s h shows a b can))
+          omega (arith, (rw nil at c).1) in (
+            λ can. absurd (shows a b can),
+            λ can. absurd (empty_was l lts ready.old of _ ready.is.follows s h shows a b can),
+          )
 
       -- The split signature of a state is empty if the signature of the state has not changed since the last round, and
       -- otherwise it is the new signature. For the active state s, which is a state that the round processes, the list
@@ -265,20 +306,19 @@ module _ (l : Grouped) (r : Signed) (ready : IsReadyToSign Branching l r) where
     cached_now : (s : ℕ) → s < l.states → IsSingleton of s ⊎ IsSignature Branching l of s (list_of signatures cached s)
     cached_now s h = grind (arith, common_steps, signs.still s, active_or_cached s h, signs.signed s, same_list s h)
 
-    -- The split signature of a state is empty if the signature of the state has not changed since the last round, and
-    -- otherwise it is the new signature. After the signatures have been computed, `signature_ids` contains the ID of
-    -- the split signature of each state that is not in a singleton block. The cache contains the ID of the present
-    -- signature of each such state (`SignsEach`).
-    pub branching_signs : IsLts l → SignsEach Branching l ready.old
+    -- After the round has computed the signatures of the active states, the data of the round is correct
+    -- (`SignsRound`).
+    pub branching_signs : IsLts l → SignsRound Branching l r
         (record r { signatures = signatures; cached = cached; signature_ids = signature_ids })
-    branching_signs lts = let keeps = ready.cached refl in record {
-      each = λ s h. let given = λ (one : IsMember active s). ⊎_map (λ x. x) (split_id lts s h one) (keeps.each s h) in
-          grind (arith, ready.others s h, none s, given, have, are.first);
-      first = λ none s one. grind
-          (arith, common_steps, signs.changed s one, signs.signed s one, ready.empty refl none s);
+    branching_signs lts = record {
+      blocks = refl;
+      index = refl;
+      tells = tells Branching l lts r ready signatures signature_ids are.first have none
+          (λ s h one. ⊎_map (λ alone. alone) (split_id lts s h one) ((ready.cached refl).each s h));
       cached = λ branching. record {
         states = signs.states;
         signature_ids = signs.each;
         each = λ s h. ⊎_map (λ alone. alone) (λ is. (is.ascending, is.exactly)) (cached_now s h);
       };
+      first = λ _ empty s one. grind (arith, common_steps, signs.changed s one, signs.signed s one, empty refl s);
     }

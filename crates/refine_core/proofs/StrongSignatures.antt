@@ -16,11 +16,9 @@ use Rattle.lts.specs.Lts.{IsTriple, IsLts}
 use Rattle.lts.specs.Visited.{remaining_of}
 use Rattle.lts.proofs.CallerLemmas.{contains_mapped, mapped_contains, left_none}
 use Rattle.signatures.specs.Lists.{list_at, Grow, pair_cmp}
-use Rattle.signatures.proofs.CallerLemmas.{ascending_none}
-use Rattle.partition.specs.Blocks.{AreActive, InactiveHaveNone, IsMember}
+use Rattle.partition.specs.Blocks.{AreActive, InactiveHaveNone}
 use Rattle.inert.specs.Signed.{HasPair, IsSignature, pair_under}
-use Rattle.refine_core.specs.Signatures.{Signed, list_of, HasNewBlock, IsAsBefore, IsStrongSplitSignature, Follows}
-use Rattle.refine_core.specs.IndexState.{IsReadyToSign, SignsEach}
+use Rattle.refine_core.specs.Signatures.{list_of, HasNewBlock, IsAsBefore, IsStrongSplitSignature, Follows}
 
 -- `StepAt` holds if the list of all transitions contains a transition from the state s to the state t with the label a.
 -- The field `place` is the index of this transition in the list.
@@ -62,14 +60,15 @@ unaffected_as_before l sys (Some old) of low follows s still a b =
     (step_below (system_of l) sys s a t step).1 (still a t step) in
     (λ h. (h.0, h.1, sym (same h.0 h.1) ∙ h.2), λ h. (h.0, h.1, same h.0 h.1 ∙ h.2))
 
--- Suppose that a transition of the state s leads to a new block, which is a block that the last split has made. Then
--- the strong signature of s has changed since the last round.
-pub affected_changed : (l : Grouped) → IsSystem (system_of l) → (old : Option (List ℕ)) (of : List ℕ) (low : ℕ)
-    → Follows Strong l old of low → (s : ℕ) (a : List ℕ) (t : ℕ) → Step (system_of l) s a t → low ≤ slice_index of t
-    → ¬ IsAsBefore Strong l old of s
-affected_changed l sys None of low follows s a t step new same = (same a (slice_index of t)).0 (t, step, refl)
-affected_changed l sys (Some old) of low follows s a t step new same =
-    grind (arith, common_steps, same a (slice_index of t), follows.below, step_below (system_of l) sys s a)
+-- Suppose that the strong signature of the state s is the same as in the last round. Then no transition of s leads to a
+-- new block, which is a block that the last split has made.
+pub as_before_unaffected : (l : Grouped) → IsSystem (system_of l) → (old : Option (List ℕ)) (of : List ℕ) (low : ℕ)
+    → Follows Strong l old of low → (s : ℕ) → IsAsBefore Strong l old of s
+    → IsUnaffected (system_of l) (slice_index of) low s
+as_before_unaffected l sys None of low follows s same a t step = absurd ((same a (slice_index of t)).0 (t, step, refl))
+as_before_unaffected l sys (Some old) of low follows s same a t step =
+    let (u, was, is) = (same a (slice_index of t)).0 (t, step, refl) in
+    omega (arith, follows.below u (step_below (system_of l) sys s a u was).1, is)
 
 -- The following lemmas are about the row of the state s, which is the list of the stored transitions from s. The
 -- arguments `sources` and `steps` are the laws that the contract of `lts::rows_are_steps` states for s.
@@ -109,28 +108,26 @@ module _ (l : Grouped) (blocks : List ℕ) (s : ℕ) (h : IsLts l)
       ascending = ascending;
     }
 
-    -- The split signature of a state is empty if the signature of the state has not changed since the last round, and
-    -- otherwise it is the new signature. Suppose that some transition of the state s leads to a new block, which is a
-    -- block that the last split has made. Then the strong signature of s has changed since the last round. So the list
-    -- zs, which is the new signature of s, is the split signature of s.
+    -- Suppose that some transition of the state s leads to a new block, which is a block that the last split has made.
+    -- Then the list zs, which is the strong signature of s, is the split signature of s.
     pub row_affected : (first_new : ℕ) → HasNewBlock first_new pairs → IsStrongSplitSignature l blocks first_new s zs
-    row_affected first_new (z, in_row, new) old follows =
-        let (t, step, target) = (has z in_row).1 in
-        let other = affected_changed l h.system old blocks first_new follows s _ t step (omega (arith, new, target)) in
-        inr (λ none. absurd (omega (arith, (rw none at ((same z).1 in_row)).1)), other, row_signature)
+    row_affected first_new (z, in_row, new) = inr (
+      λ none. absurd (omega (arith, (rw none at ((same z).1 in_row)).1)),
+      λ still. let (t, step, target) = (has z in_row).1 in omega (arith, still _ t step, new, target),
+      row_signature,
+    )
 
-  -- The split signature of a state is empty if the signature of the state has not changed since the last round, and
-  -- otherwise it is the new signature. Suppose that no transition of the state s leads to a new block, which is a block
-  -- that the last split has made. Then the strong signature of s is the same as in the last round. So the split
-  -- signature of s is empty.
+  -- Suppose that no transition of the state s leads to a new block, which is a block that the last split has made. Then
+  -- the split signature of s is empty.
   pub row_unaffected : (first_new : ℕ) → ¬ HasNewBlock first_new pairs → IsStrongSplitSignature l blocks first_new s []
-  row_unaffected first_new none old follows =
-      let still : IsUnaffected (system_of l) (slice_index blocks) first_new s = λ a t step.
-      let (e, in_row, _, target) = (steps a t).0 step in
-      let c = contains_mapped (pair_under blocks) (row_of s l.places) e in_row in
-      let apart : ¬ (first_new ≤ slice_index blocks (target_of e)) = λ h. none (pair_under blocks e, c, h) in
-      omega (arith, apart, ap (slice_index blocks) target) in
-      inl (refl, unaffected_as_before l h.system old blocks first_new follows s still)
+  row_unaffected first_new none = inl (
+    refl,
+    λ a t step.
+        let (e, in_row, _, target) = (steps a t).0 step in
+        let c = contains_mapped (pair_under blocks) (row_of s l.places) e in_row in
+        let apart : ¬ (first_new ≤ slice_index blocks (target_of e)) = λ h. none (pair_under blocks e, c, h) in
+        omega (arith, apart, ap (slice_index blocks) target),
+  )
 
 -- The place of a transition is its index in the list of all transitions. The transitions of the state s follow each
 -- other in this list, and the first of them has the place `start`. The pair of a transition consists of its label ID
@@ -177,27 +174,3 @@ signed_more grow rises size more before within this = search rules
 pub inactive_none_more : (signature_ids active : List ℕ) (i k : ℕ) → i < length active
     → InactiveHaveNone active signature_ids → InactiveHaveNone active (set signature_ids (slice_index active i) k)
 inactive_none_more signature_ids active i k more none t h = grind (arith, common_steps, get_or-set_other, length-set)
-
--- The split signature of a state is empty if the signature of the state has not changed since the last round, and
--- otherwise it is the new signature. Suppose that the data of the round was ready for computing signatures
--- (`IsReadyToSign`). Suppose that, for each active state (each state that the round processes), the list
--- `signature_ids` contains the ID of the split signature of the state. Suppose that, for each other state, this list
--- contains the ID of the empty signature. Then the round has computed the signatures correctly (`SignsEach`).
-pub strong_signs : (l : Grouped) (r : Signed) (ready : IsReadyToSign Strong l r)
-    (signatures : List (List (ℕ × ℕ))) (signature_ids : List ℕ) → list_at signatures 0 ≡ []
-    → length signature_ids ≡ l.states → InactiveHaveNone r.blocks.active signature_ids
-    → ((s : ℕ) → IsMember r.blocks.active s → IsStrongSplitSignature l r.blocks.block_ids r.blocks.first_new s
-    (list_of signatures signature_ids s))
-    → SignsEach Strong l ready.old (record r { signatures = signatures; signature_ids = signature_ids })
-strong_signs l r ready signatures signature_ids first size none put =
-    let given = λ (s : ℕ) (one : IsMember r.blocks.active s). put s one ready.old ready.is.follows in record {
-      each = λ s ls. grind (arith, ready.others s ls, none s, given s, size, first);
-      first = λ is s one. elim (rw is at (given s one)) [
-        | inl same ↦ rw same.0 (record {
-          exactly = λ k b. grind (arith, same.1 (text_of l.labels k) b);
-          ascending = ascending_none pair_cmp;
-        })
-        | inr changed ↦ changed.2
-      ];
-      cached = λ is. absurd cc;
-    }

@@ -6,16 +6,15 @@
 use Rattle.std.specs.Prelude.{◌≡◌, ◌⊎◌, ◌↔◌, ℕ, ◌^◌, ◌<◌, ◌≤◌, List, [], ◌∷◌, length, slice_index}
 use Rattle.std.specs.Prelude.{Option, None, Some, IfSome}
 use Rattle.theory.specs.declared.relation.Relation.{Relation}
-use Rattle.theory.specs.declared.relation.Relation.TheVariants.{Branching}
+use Rattle.theory.specs.declared.relation.Relation.TheVariants.{Strong, Branching}
 use Rattle.theory.specs.System.{System}
-use Rattle.theory.specs.Blocks.{Split, SameBlocks, OneBlock}
+use Rattle.theory.specs.Blocks.{Split, SameSignature, SameBlocks, OneBlock}
 use Rattle.lts.specs.Lts.{Grouped, row_of, system_of}
 use Rattle.partition.specs.Splitting.{IsSingleton}
 use Rattle.partition.specs.Blocks.{IsMember}
 use Rattle.partition.specs.Renumberings.{SplitsByHalves, renumberings}
 use Rattle.inert.specs.Signed.{IsSignature}
-use Rattle.refine_core.specs.Signatures.{Signed, list_of, Follows, IsAsBefore, IsSplitSignature}
-use Rattle.refine_core.specs.Signatures.{CachesIds}
+use Rattle.refine_core.specs.Signatures.{Signed, list_of, Follows, IsAsBefore, CachesIds}
 use Rattle.refine_core.specs.Index.{HasIndex}
 
 -- Let R be a condition on states. `OthersSatisfy` holds if each state is active (processed by the round), is in a
@@ -57,14 +56,12 @@ pub record Awaits (rel : Relation) (l : Grouped) (r : Signed) : Type 0 where
 -- states, which are the states that the round processes (`IsAtRound`). The field `old` contains the block IDs of all
 -- states in the last round. Each state that is neither active nor in a singleton block must have the same signature as
 -- in the last round. For branching bisimilarity, the signatures of the last round must be cached (`CachesIds`). If
--- `old` is `None`, the signature of each state in the last round is taken to be empty. For branching bisimilarity, the
--- cached signature of each state must be empty in this case.
+-- `old` is `None`, the signature of each state in the last round is taken to be empty.
 pub record IsReadyToSign (rel : Relation) (l : Grouped) (r : Signed) : Type 0 where
   pub old : Option (List ℕ)
   pub is : IsAtRound rel l old r
   pub others : OthersSatisfy (IsAsBefore rel l old r.blocks.block_ids) l.states r.blocks.block_ids r.blocks.active
   pub cached : rel ≡ Branching → CachesIds l r.blocks.block_ids r.signatures r.cached old
-  pub empty : rel ≡ Branching → old ≡ None → (s : ℕ) → slice_index r.cached s ≡ 0
 
 -- `MayBuildIndex` is about the step of a round that may build the predecessor index. The data of the round is p before
 -- the step, and r after the step. The step must not have changed the blocks and the cached signature IDs. Either the
@@ -76,29 +73,25 @@ pub record MayBuildIndex (rel : Relation) (l : Grouped) (p r : Signed) : Type 0 
   pub built : (r ≡ p) ⊎ (¬ (r.index ≡ None) × (r.signatures ≡ [] ∷ []))
   pub index : IfSome r.index (HasIndex rel l r.blocks.block_ids)
 
--- `SignsEach` holds if the round has computed the signatures of the active states, which are the states that the round
--- processes. The data of the round is r. The split signature of a state is empty if the signature of the state has not
--- changed since the last round, and otherwise it is the new signature. For each state that is not in a singleton block,
--- `signature_ids` must contain the ID of the split signature of the state (`IsSplitSignature`). For branching
--- bisimilarity, the new signatures must be cached for the next round (`CachesIds`). The argument `old` contains the
--- block IDs of all states in the last round. If `old` is `None`, no round has run yet, or all signatures have been
--- discarded since the last round. If `old` is `None`, `signature_ids` must contain the ID of the signature of each
--- active state.
-pub record SignsEach (rel : Relation) (l : Grouped) (old : Option (List ℕ)) (r : Signed) : Type 0 where
-  pub each : (s : ℕ) → s < l.states → IsSingleton r.blocks.block_ids s
-      ⊎ IsSplitSignature rel l old r.blocks.block_ids s (list_of r.signatures r.signature_ids s)
-  pub first : old ≡ None → (s : ℕ) → IsMember r.blocks.active s
-      → IsSignature rel l r.blocks.block_ids s (list_of r.signatures r.signature_ids s)
-  pub cached : rel ≡ Branching → CachesIds l r.blocks.block_ids r.signatures r.cached (Some r.blocks.block_ids)
-
 -- `SignsRound` is about the step of a round that computes the signatures of the active states, which are the states
 -- that the round processes. The data of the round is p before the step, and r after the step. The step must not have
--- changed the blocks and the predecessor index. Suppose that p was ready for the step (`IsReadyToSign`). Then the
--- signatures in r must be correct with respect to the blocks of the last round (`SignsEach`).
+-- changed the blocks and the predecessor index. Suppose that two states share a block. Then the IDs of these states in
+-- `signature_ids` must be IDs of equal lists if and only if the signatures of the two states are equal
+-- (`SameSignature`). For branching bisimilarity, the new signatures must be cached for the next round (`CachesIds`).
+-- Suppose that, in p, all blocks count as new (`first_new` is 0) for strong bisimilarity, and that all cached
+-- signatures are empty for branching bisimilarity. Then `signature_ids` must contain the ID of the signature of each
+-- active state.
 pub record SignsRound (rel : Relation) (l : Grouped) (p r : Signed) : Type 0 where
   pub blocks : r.blocks ≡ p.blocks
   pub index : r.index ≡ p.index
-  pub signs : (ready : IsReadyToSign rel l p) → SignsEach rel l ready.old r
+  pub tells : (s t : ℕ) → s < l.states → t < l.states
+      → slice_index r.blocks.block_ids s ≡ slice_index r.blocks.block_ids t
+      → (list_of r.signatures r.signature_ids s ≡ list_of r.signatures r.signature_ids t)
+      ↔ SameSignature rel (system_of l) (slice_index r.blocks.block_ids) s t
+  pub cached : rel ≡ Branching → CachesIds l r.blocks.block_ids r.signatures r.cached (Some r.blocks.block_ids)
+  pub first : (rel ≡ Strong → p.blocks.first_new ≡ 0) → (rel ≡ Branching → (s : ℕ) → slice_index p.cached s ≡ 0)
+      → (s : ℕ) → IsMember r.blocks.active s
+      → IsSignature rel l r.blocks.block_ids s (list_of r.signatures r.signature_ids s)
 
 -- `IsNextRound` holds if q is the data after one round that started with the block IDs `of`. Splitting the blocks `of`
 -- by signatures must result in the blocks of q (`Split`). No state may be in a larger block than before the round. If

@@ -9,6 +9,7 @@ use Rattle.std.specs.List.{Contains}
 use Rattle.std.specs.List.Sorted.{IsStrictlySortedBy}
 use Rattle.theory.specs.declared.relation.Relation.{Relation}
 use Rattle.theory.specs.declared.relation.Relation.TheVariants.{Strong, Branching}
+use Rattle.theory.specs.System.{Step}
 use Rattle.theory.specs.Blocks.{Signature, Split}
 use Rattle.theory.specs.Unaffected.{KeepsBlockIds}
 use Rattle.lts.specs.Labels.{text_of}
@@ -69,13 +70,6 @@ abbrev pub IsAsBefore : Relation → Grouped → Option (List ℕ) → List ℕ 
 IsAsBefore rel l old of s =
     (a : List ℕ) (b : ℕ) → Signature rel (system_of l) (slice_index of) s a b ↔ Was rel l old s a b
 
--- `IsSplitSignature` holds if `list` is the split signature of the state s. A split separates two states of a block if
--- their split signatures differ. If the signature of s is the same as in the last round, `list` must be empty.
--- Otherwise, `list` must be the new signature of s, and must not be empty.
-abbrev pub IsSplitSignature : Relation → Grouped → Option (List ℕ) → List ℕ → ℕ → List (ℕ × ℕ) → Type 0
-IsSplitSignature rel l old of s list = ((list ≡ []) × IsAsBefore rel l old of s)
-    ⊎ (¬ (list ≡ []) × ¬ IsAsBefore rel l old of s × IsSignature rel l of s list)
-
 -- The lists `old` and `of` contain the block IDs of all states before and after a split. `IsLastSplit` holds if all
 -- three of the following conditions hold. First, the blocks `of` result from splitting the blocks `old` by signatures
 -- (`Split`). Second, each block ID in `old` is less than `first_new`. Third, if the block ID of a state in `of` is less
@@ -97,14 +91,14 @@ Follows rel l (Some old) of first_new = IsLastSplit rel l old of first_new
 abbrev pub HasNewBlock : ℕ → List (ℕ × ℕ) → Type 0
 HasNewBlock first_new pairs = (z : ℕ × ℕ) × Contains pairs z × (first_new ≤ z.1)
 
--- `IsStrongSplitSignature` holds if `list` is the split signature of the state s for strong bisimilarity
--- (`IsSplitSignature`). This means that `list` is empty if the signature of s has not changed since the last round, and
--- otherwise is the new signature of s. The definition has no argument for the blocks of the last round. Instead, `list`
--- must be the split signature of s for every choice of blocks of the last round from which a split can have made the
--- blocks `of` (`Follows`).
+-- `IsStrongSplitSignature` holds if `list` is the split signature of the state s for strong bisimilarity. A block is
+-- new if its ID is at least `first_new`, and otherwise it is old. If each transition of s leads to an old block, the
+-- signature of s is the same as in the last round, and `list` must be empty. Otherwise, `list` must be the signature of
+-- s, and must not be empty.
 abbrev pub IsStrongSplitSignature : Grouped → List ℕ → ℕ → ℕ → List (ℕ × ℕ) → Type 0
-IsStrongSplitSignature l of first_new s list = (old : Option (List ℕ)) → Follows Strong l old of first_new
-    → IsSplitSignature Strong l old of s list
+IsStrongSplitSignature l of first_new s list =
+    let unaffected = (a : List ℕ) (t : ℕ) → Step (system_of l) s a t → slice_index of t < first_new in
+    ((list ≡ []) × unaffected) ⊎ (¬ (list ≡ []) × ¬ unaffected × IsSignature Strong l of s list)
 
 -- `IsListOf` holds if `list` stores the set of pairs that the predicate `has` describes. This set contains the pair of
 -- a label a and a block b if and only if `has a b` holds. Both of the following conditions must hold. First, the pairs

@@ -10,7 +10,7 @@ ghost use Rattle.partition.specs.Blocks.{IsMember};
 ghost use Rattle.inert.specs.Signed.{IsSignature};
 ghost use Rattle.refine_core.specs.Signatures.{HasNoSignatures, list_of};
 ghost use Rattle.refine_core.specs.Index.{HasVisited};
-ghost use Rattle.refine_core.specs.IndexState.{Awaits, IsReadyToSign, SignsEach, SignsRound};
+ghost use Rattle.refine_core.specs.IndexState.{Awaits, IsReadyToSign, SignsRound};
 
 use crate::signed_blocks::SignedBlocks;
 use lts::{Lts, Memory, Meter, visit_rest};
@@ -44,10 +44,7 @@ pub trait Signing {
         requires visited { AreVisited l.now.places round.visited }
         requires room { HasRoomFor (M.counted m.old) 0
             (length (remaining_of round.visited l.now.places)) }
-        ensures same { IfOk result (λ r. (r.blocks ≡ round.blocks)
-            × (r.index ≡ round.index)) }
-        ensures signed { IfOk result (λ r. (ready : IsReadyToSign relation l.now round)
-            → SignsEach relation l.now ready.old r) }
+        ensures signed { IfOk result (SignsRound relation l.now round) }
         ensures cost { Costs (M.counted m.old) (M.counted m.new) 0 0
             (length (remaining_of round.visited l.now.places)) };
 }

@@ -16,11 +16,11 @@ invariant_of-round g c =
     (omega arith)
 
 pub returns-clause-signed : goal.returns-clause-signed
-returns-clause-signed g c = rw (sym c.round.view_is) (λ ready.
-    let l = c.args.l.now in
+returns-clause-signed g c =
     let r = c.round.inside in
     let have = c.invariants-3.ensures.have in
-    branching_signs l _ ready _ _ _ c.invariants-3.ensures.signatures
-    (subst (SignsActive l r.blocks.block_ids r.blocks.active r.signatures c.sign_each.new.signatures r.signer
+    let ready = rw (sym c.round.view_is) at c.requires.ready in
+    rw (sym c.round.view_is) (branching_signs c.args.l.now _ ready _ _ _ c.invariants-3.ensures.signatures
+    (subst (SignsActive c.args.l.now r.blocks.block_ids r.blocks.active r.signatures c.sign_each.new.signatures r.signer
     c.sign_each.new.self) (sym (take_at _ _ _ (omega (arith, c.sign_each.auto.signature_ids, c.deref_mut.ensures.len))))
     c.in_ok-sign_each.ensures.signs) (have.states ∙ ready.is.states) have.none c.invariants.ensures)
