@@ -1,9 +1,12 @@
--- The lemmas in this file are about blanks in front of a token, and about the bytes that may follow a token.
-use Rattle.std.proofs.Common.{◌≡◌, ◌⊎◌, ℕ, Bool, true, false, List, [], ◌∷◌, ◌++◌, refl, sym, ap, ◌∙◌, append_assoc}
-use Rattle.std.proofs.Common.{arith}
+-- The lemmas in this file are about blanks in front of a token, about the bytes that may follow a token, and about bytes
+-- that do not occur in a line.
+use Rattle.std.proofs.Common.{◌≡◌, ◌≢◌, ◌⊎◌, ℕ, Bool, true, false, not, List, [], ◌∷◌, ◌++◌, All, refl, sym, ap, ◌∙◌}
+use Rattle.std.proofs.Common.{append_assoc, arith}
+use Rattle.std.specs.Prelude.{◌==◌}
+use Rattle.std.specs.List.{AllByRecursion, list_all}
 use Rattle.std.proofs.lemmas.Grind.{common_steps}
-use Rattle.std.proofs.lemmas.Bool.{cond_both}
-use Rattle.std.proofs.lemmas.List.Elements.{All-nil, All-cons, All-head, All-tail, All-weaker}
+use Rattle.std.proofs.lemmas.Bool.{cond_both, eq-eqb}
+use Rattle.std.proofs.lemmas.List.Elements.{All-nil, All-cons, All-head, All-tail, All-append, All-weaker}
 use Rattle.std.proofs.lemmas.List.Sums.{AllPass-from_list_all, list_all-from_AllPass}
 use Rattle.autfmt.specs.Grammar.{Blanks, Spaced}
 use Rattle.autfmt.specs.Reading.{is_blank, are_blanks, after_blanks}
@@ -88,3 +91,28 @@ are_blanks-from bs blanks = grind (arith, list_all-from_AllPass, All-weaker, tes
 
 pub Blanks-from_test : (bs : List ℕ) → are_blanks bs ≡ true → Blanks bs
 Blanks-from_test bs e = grind (arith, All-weaker, IsBlank-from_test, AllPass-from_list_all)
+
+-- ---- Bytes that do not occur in a line
+
+-- `Without c bytes` holds if the byte c does not occur in the list `bytes`. For the line feed, which is the byte 10,
+-- this is the definition of `IsOneLine`.
+abbrev pub Without : ℕ → List ℕ → Type 0
+Without c bytes = All (λ b. b ≢ c) bytes
+
+-- The lemma is used for the tokens that the grammar fixes, such as `des` and the comma.
+pub Without-literal : (c : ℕ) (bytes : List ℕ) → list_all (λ b. not (b == c)) bytes ≡ true → Without c bytes
+Without-literal c bytes e =
+    All-weaker (λ b. not (b == c) ≡ true) (λ b. b ≢ c) (λ b other same. let t = eq-eqb b c same in cc) bytes
+    (AllPass-from_list_all (λ b. not (b == c)) bytes e)
+
+pub Without-blanks : (c : ℕ) (bs : List ℕ) → is_blank c ≡ false → Blanks bs → Without c bs
+Without-blanks c bs other blanks =
+    All-weaker IsBlank (λ b. b ≢ c) (λ b blank same. let t = test-IsBlank b blank in cc) bs blanks
+
+-- If the byte c is no blank and occurs in no token of a line, then c does not occur in the line.
+pub Without-spaced : (c : ℕ) (tokens : List (List ℕ)) (line : List ℕ) → is_blank c ≡ false →
+    AllByRecursion (Without c) tokens → Spaced tokens line → Without c line
+Without-spaced c [] line other none s = Without-blanks c line other s
+Without-spaced c (token ∷ tokens) line other none s =
+    let front = All-append (λ b. b ≢ c) s.0 token (Without-blanks c s.0 other s.2) none.0 in
+    rw s.3 (All-append (λ b. b ≢ c) (s.0 ++ token) s.1 front (Without-spaced c tokens s.1 other none.1 s.4))

@@ -1,22 +1,21 @@
 -- The lemmas in this file are about reading a line. A line can be read if and only if it has a form that the grammar
 -- allows.
-use Rattle.std.proofs.Common.{rules, ◌≡◌, ℕ, ◌+◌, ◌<◌, ◌%◌, true, false, cond, List, [], ◌∷◌, ◌++◌, Option, Some, None}
+use Rattle.std.proofs.Common.{rules, ◌≡◌, ℕ, true, false, cond, List, [], ◌∷◌, ◌++◌, Option, Some, None}
 use Rattle.std.proofs.Common.{refl, ap, ◌∙◌, arith}
 use Rattle.std.specs.Prelude.{codes, ◌==◌}
 use Rattle.std.specs.Char.{is_ascii_digit}
-use Rattle.std.proofs.lemmas.Bool.{eqb-true, ne_eqb}
-use Rattle.std.proofs.lemmas.Fmt.{decimal_by_steps}
+use Rattle.std.proofs.lemmas.Bool.{eqb-true}
 use Rattle.std.proofs.lemmas.Option.{cond_some, same_Some}
 use Rattle.theory.specs.System.{IsLabel}
 use Rattle.autfmt.specs.Grammar.{Spaced, IsDecimal, Label, Header, TransitionLine, HideLine}
+use Rattle.autfmt.specs.Texts.{IsOneLine}
 use Rattle.autfmt.specs.Reading.{is_blank, is_word, are_blanks, after_blanks, past, past_des, number_at, number_then}
 use Rattle.autfmt.specs.Reading.{label_at, header_at, ending_at, transition_at, hide_line_at}
 use Rattle.autfmt.proofs.Blanks.{at_token, Spaced-from, Stops, Stops-blanks, Stops-mark, are_blanks-from}
-use Rattle.autfmt.proofs.Blanks.{Blanks-from_test}
-use Rattle.autfmt.proofs.Numbers.{blanks_no_digits, IsToken-number, number_at-takes, number_at-again}
+use Rattle.autfmt.proofs.Blanks.{Blanks-from_test, Without, Without-literal, Without-blanks, Without-spaced}
+use Rattle.autfmt.proofs.Numbers.{blanks_no_digits, IsToken-number, number_at-takes, number_at-again, Without-number}
 use Rattle.autfmt.proofs.PlainLabels.{bind_some, blanks_no_words}
-use Rattle.autfmt.proofs.QuotedLabels.{HasNoQuote, HasNoQuote-append, HasNoQuote-blanks, HasNoQuote-spaced}
-use Rattle.autfmt.proofs.Labels.{label_at-takes, label_at-again, IsToken-label, IsLabel-spelled}
+use Rattle.autfmt.proofs.Labels.{label_at-takes, label_at-again, IsToken-label, IsLabel-spelled, Without-label}
 
 -- ---- Single bytes
 
@@ -81,7 +80,7 @@ label-takes : (tokens : List (List ℕ)) (line : List ℕ) (x : List ℕ × List
 label-takes tokens line x e s = search (rules, label_at-takes, Spaced-from)
 
 label-again : (tokens : List (List ℕ)) (line spelling a : List ℕ) → Label spelling a
-    → (s : Spaced (spelling ∷ tokens) line) → Stops is_word s.1 → HasNoQuote s.1
+    → (s : Spaced (spelling ∷ tokens) line) → Stops is_word s.1 → Without 34 s.1
     → label_at (after_blanks line) ≡ Some (a, s.1)
 label-again tokens line spelling a label s stops none =
     ap label_at (at_token spelling tokens line (IsToken-label spelling a label) s)
@@ -152,12 +151,6 @@ ending_at-takes line x e =
     let label = label-takes (codes "," ∷ behind) line a p0 (mark-takes 44 behind a.1 c p1 target.2) in
     rw (← is) (label.0, target.0, label.1, target.1, label.2)
 
-HasNoQuote-number : (digits : List ℕ) (n : ℕ) → IsDecimal digits n → HasNoQuote digits
-HasNoQuote-number digits n number =
-    let digit : (d : ℕ) → d < 10 → HasNoQuote ((48 + d) ∷ []) = λ d _. (ne_eqb (48 + d) 34 (λ e. omega arith), tt) in
-    rw number.1 (decimal_by_steps (λ _ ds. HasNoQuote ds) digit (λ k ds _ before. HasNoQuote-append ds _ before
-    (digit (k % 10) (omega arith))) n (omega (arith, number.0)))
-
 ending_at-again : (line a : List ℕ) (t : ℕ) → Ending line a t → ending_at (after_blanks line) ≡ Some (a, t)
 unfolding ending_at
 ending_at-again line a t h =
@@ -166,8 +159,9 @@ ending_at-again line a t h =
     let target = comma.4 in
     let behind = h.1 ∷ codes ")" ∷ [] in
     let stops = Stops-mark is_word 44 behind label.1 blanks_no_words refl comma in
-    let none = HasNoQuote-spaced (codes "," ∷ behind) label.1
-    ((refl, tt), (HasNoQuote-number h.1 t h.3, ((refl, tt), tt))) comma in
+    let digits = Without-number 34 h.1 t (omega arith) h.3 in
+    let none = Without-spaced 34 (codes "," ∷ behind) label.1 refl
+    (Without-literal 34 (codes ",") refl, (digits, (Without-literal 34 (codes ")") refl, tt))) comma in
     rw (label-again (codes "," ∷ behind) line h.0 a h.2 label stops none, mark-again 44 behind label.1 refl refl comma)
     (rw (number_then-again 41 [] comma.1 h.1 t refl refl refl h.3 target) (with_end-again target.4.1 (a, t) target.4.4))
 
@@ -211,7 +205,7 @@ unfolding hide_line_at
 hide_line_at-again line a h =
     let rest = h.2.1 in
     rw (label-again [] line h.0 a h.1 h.2 (Stops-blanks is_word rest blanks_no_words h.2.4)
-    (HasNoQuote-blanks rest h.2.4))
+    (Without-blanks 34 rest refl h.2.4))
     (with_end-again rest a h.2.4)
 
 -- ---- If a line is a transition or a line of a hide list, then its label is valid
@@ -221,3 +215,29 @@ transition-label line s a t h = IsLabel-spelled h.1 a h.4
 
 pub hide_line-label : (line a : List ℕ) → HideLine line a → IsLabel a
 hide_line-label line a h = IsLabel-spelled h.0 a h.1
+
+-- ---- A header and a transition contain no line feed
+
+pub Header-one : (line : List ℕ) (f m n : ℕ) → Header line f m n → IsOneLine line
+Header-one line f m n h =
+    let first = Without-number 10 h.0 f (omega arith) h.3 in
+    let transitions = Without-number 10 h.1 m (omega arith) h.4 in
+    let states = Without-number 10 h.2 n (omega arith) h.5 in
+    let des = Without-literal 10 (codes "des") refl in
+    let before = Without-literal 10 (codes "(") refl in
+    let comma = Without-literal 10 (codes ",") refl in
+    let behind = Without-literal 10 (codes ")") refl in
+    Without-spaced 10
+    (codes "des" ∷ codes "(" ∷ h.0 ∷ codes "," ∷ h.1 ∷ codes "," ∷ h.2 ∷ codes ")" ∷ []) line refl
+    (des, (before, (first, (comma, (transitions, (comma, (states, (behind, tt)))))))) h.6
+
+pub TransitionLine-one : (line : List ℕ) (s : ℕ) (a : List ℕ) (t : ℕ) → TransitionLine line s a t → IsOneLine line
+TransitionLine-one line s a t h =
+    let source = Without-number 10 h.0 s (omega arith) h.3 in
+    let label = Without-label 10 h.1 a (omega arith) h.4 in
+    let target = Without-number 10 h.2 t (omega arith) h.5 in
+    let before = Without-literal 10 (codes "(") refl in
+    let comma = Without-literal 10 (codes ",") refl in
+    let behind = Without-literal 10 (codes ")") refl in
+    Without-spaced 10 (codes "(" ∷ h.0 ∷ codes "," ∷ h.1 ∷ codes "," ∷ h.2 ∷ codes ")" ∷ []) line refl
+    (before, (source, (comma, (label, (comma, (target, (behind, tt))))))) h.6

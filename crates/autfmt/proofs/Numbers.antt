@@ -1,15 +1,16 @@
 -- The lemmas in this file are about reading a number. The bytes that are read are the decimal digits of the number that
 -- is returned. Each number with at most ten decimal digits can be read.
-use Rattle.std.proofs.Common.{◌≡◌, ℕ, ◌+◌, ◌-◌, ◌*◌, ◌/◌, ◌%◌, ◌^◌, ◌<◌, ◌≤◌, true, false, cond, List, [], ◌∷◌, ◌++◌}
+use Rattle.std.proofs.Common.{◌≡◌, ◌≢◌, ℕ, ◌+◌, ◌-◌, ◌*◌, ◌/◌, ◌%◌, ◌^◌, ◌<◌, ◌≤◌, true, false, cond, List, [], ◌∷◌, ◌++◌}
 use Rattle.std.proofs.Common.{Option, Some, None, refl, sym, ap, ◌∙◌, append_assoc, arith, rules}
 use Rattle.std.specs.Prelude.{decimal, nat_lt}
 use Rattle.std.specs.Char.{is_ascii_digit}
 use Rattle.std.proofs.lemmas.Bool.{cond_both, and_parts, ltb-true}
 use Rattle.std.proofs.lemmas.Bool.Decides.{nat_tests}
 use Rattle.std.proofs.lemmas.Fmt.{decimal_digit, decimal_step, decimal_by_steps}
+use Rattle.std.proofs.lemmas.List.Elements.{All-nil, All-cons, All-append}
 use Rattle.autfmt.specs.Grammar.{IsDecimal}
 use Rattle.autfmt.specs.Reading.{is_blank, grows, more_digits, number_at}
-use Rattle.autfmt.proofs.Blanks.{IsToken, Stops, FailsBlanks}
+use Rattle.autfmt.proofs.Blanks.{IsToken, Stops, FailsBlanks, Without}
 
 pub digit-range : (b : ℕ) → is_ascii_digit b ≡ true → (48 ≤ b) × (b < 58)
 digit-range b e = (grind (arith, nat_tests), grind (arith, nat_tests))
@@ -109,7 +110,7 @@ number_at-again digits n rest number stops =
     let leads : Leads n (decimal n) = decimal_by_steps Leads Leads-one Leads-more n (omega (arith, number.0)) in
     ap (λ (x : List ℕ). number_at (x ++ rest)) number.1 ∙ leads number.0 rest ∙ more_digits-stops n rest stops
 
--- ---- The first byte of a number
+-- ---- The bytes of a number
 
 IsToken-append : (token tail : List ℕ) → IsToken token → IsToken (token ++ tail)
 IsToken-append token tail h = grind arith
@@ -119,3 +120,11 @@ IsToken-number digits n number =
     let h : IsToken (decimal n) = decimal_by_steps (λ _ ds. IsToken ds) (λ k _. digit-not_blank k)
     (λ k ds _ before. IsToken-append ds ((48 + k % 10) ∷ []) before) n (omega (arith, number.0)) in
     rw number.1 h
+
+-- A byte less than 48 does not occur in the decimal digits of a number, because the digit 0 is the byte 48.
+pub Without-number : (c : ℕ) (digits : List ℕ) (n : ℕ) → c < 48 → IsDecimal digits n → Without c digits
+Without-number c digits n low number =
+    let one : (d : ℕ) → Without c ((48 + d) ∷ []) = λ d.
+    All-cons (λ b. b ≢ c) (48 + d) [] (λ e. omega arith) (All-nil (λ b. b ≢ c)) in
+    rw number.1 (decimal_by_steps (λ _ ds. Without c ds) (λ d _. one d)
+    (λ k ds _ before. All-append (λ b. b ≢ c) ds _ before (one (k % 10))) n (omega (arith, number.0)))

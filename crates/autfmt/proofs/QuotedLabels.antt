@@ -1,40 +1,14 @@
 -- The lemmas in this file are about reading a quoted label. A quoted label ends at the last quotation mark of its line.
-use Rattle.std.proofs.Common.{rules, ◌≡◌, ◌≢◌, ℕ, zero, suc, ◌+◌, ◌<◌, false, cond, List, [], ◌∷◌, ◌++◌, length, get_or}
+use Rattle.std.proofs.Common.{◌≡◌, ◌≢◌, ℕ, zero, suc, ◌+◌, ◌<◌, cond, List, [], ◌∷◌, ◌++◌, length, get_or}
 use Rattle.std.proofs.Common.{take, drop, Option, Some, None, refl, sym, ap, ◌∙◌, append_assoc, add-one, arith}
 use Rattle.std.specs.Prelude.{◌==◌}
-use Rattle.std.specs.List.{AllByRecursion}
 use Rattle.std.proofs.lemmas.Bool.{eq-eqb, ne_eqb}
 use Rattle.std.proofs.lemmas.Option.{cond_some}
 use Rattle.std.proofs.lemmas.List.{take_at, drop_at, length_push}
-use Rattle.std.proofs.lemmas.List.Elements.{All-head, All-tail}
 use Rattle.theory.specs.System.{IsLabel}
-use Rattle.autfmt.proofs.Blanks.{IsBlank}
-use Rattle.autfmt.specs.Grammar.{Blanks, Spaced}
 use Rattle.autfmt.specs.Reading.{last_quote, is_label, quoted_at}
+use Rattle.autfmt.proofs.Blanks.{Without}
 use Rattle.autfmt.proofs.PlainLabels.{bind_some, IsLabel-from_test, test-IsLabel}
-
--- `HasNoQuote bytes` holds if the list `bytes` contains no quotation mark.
-abbrev pub HasNoQuote : List ℕ → Type 0
-HasNoQuote bytes = AllByRecursion (λ b. (b == 34) ≡ false) bytes
-
-pub HasNoQuote-append : (xs ys : List ℕ) → HasNoQuote xs → HasNoQuote ys → HasNoQuote (xs ++ ys)
-HasNoQuote-append [] ys h k = k
-HasNoQuote-append (x ∷ xs) ys h k = (h.0, HasNoQuote-append xs ys h.1 k)
-
-blank-no_quote : (b : ℕ) → IsBlank b → (b == 34) ≡ false
-blank-no_quote b h = ne_eqb b 34 (λ e. grind arith)
-
-pub HasNoQuote-blanks : (bs : List ℕ) → Blanks bs → HasNoQuote bs
-HasNoQuote-blanks [] h = tt
-HasNoQuote-blanks (b ∷ bs) h =
-    (blank-no_quote b (All-head IsBlank b bs h), HasNoQuote-blanks bs (All-tail IsBlank b bs h))
-
--- If no token of a line contains a quotation mark, then the line contains no quotation mark.
-pub HasNoQuote-spaced : (tokens : List (List ℕ)) (line : List ℕ) → AllByRecursion HasNoQuote tokens →
-    Spaced tokens line → HasNoQuote line
-HasNoQuote-spaced [] line none s = HasNoQuote-blanks line s
-HasNoQuote-spaced (token ∷ tokens) line none s =
-    search (rules, HasNoQuote-append, HasNoQuote-blanks, (HasNoQuote-spaced tokens s.1 none.1 s.4))
 
 -- ---- The last quotation mark
 
@@ -48,13 +22,15 @@ last_quote-step : (b : ℕ) (bs : List ℕ) (o : Option ℕ) → last_quote bs �
 unfolding last_quote
 last_quote-step b bs o e = grind arith
 
-last_quote-none : (bs : List ℕ) → HasNoQuote bs → last_quote bs ≡ None
+pub last_quote-none_at : (bs : List ℕ) → ((k : ℕ) → k < length bs → get_or bs k 0 ≢ 34) → last_quote bs ≡ None
 unfolding last_quote
-last_quote-none [] h = refl
-last_quote-none (b ∷ bs) h = last_quote-step b bs None (last_quote-none bs h.1) ∙ rw h.0 refl
+last_quote-none_at [] h = refl
+last_quote-none_at (b ∷ bs) h =
+    last_quote-step b bs None (last_quote-none_at bs (λ k lt. h (suc k) (omega arith))) ∙ rw (ne_eqb b 34 (h 0
+    (omega arith))) refl
 
-pub last_quote-at : (a rest : List ℕ) → HasNoQuote rest → last_quote (a ++ 34 ∷ rest) ≡ Some (length a)
-last_quote-at [] rest h = last_quote-step 34 rest None (last_quote-none rest h)
+pub last_quote-at : (a rest : List ℕ) → Without 34 rest → last_quote (a ++ 34 ∷ rest) ≡ Some (length a)
+last_quote-at [] rest h = last_quote-step 34 rest None (last_quote-none_at rest (λ k below. h k 0 below))
 last_quote-at (b ∷ a) rest h = last_quote-step b _ (Some (length a)) (last_quote-at a rest h) ∙ rw add-one refl
 
 -- `HasQuoteAt bytes i` holds if there is a quotation mark at the index i of the list `bytes`.
@@ -72,13 +48,6 @@ last_quote-cuts (b ∷ bs) i e =
 
 -- ---- A search from the end of the line finds the last quotation mark
 
-pub last_quote-none_at : (bs : List ℕ) → ((k : ℕ) → k < length bs → get_or bs k 0 ≢ 34) → last_quote bs ≡ None
-unfolding last_quote
-last_quote-none_at [] h = refl
-last_quote-none_at (b ∷ bs) h =
-    last_quote-step b bs None (last_quote-none_at bs (λ k lt. h (suc k) (omega arith))) ∙ rw (ne_eqb b 34 (h 0
-    (omega arith))) refl
-
 pub last_quote-is : (bs : List ℕ) (i : ℕ) → i < length bs → get_or bs i 0 ≡ 34 →
     ((k : ℕ) → i < k → k < length bs → get_or bs k 0 ≢ 34) → last_quote bs ≡ Some i
 last_quote-is [] i lt here after = absurd (omega arith)
@@ -95,7 +64,7 @@ pub quoted_at-takes : (bytes a rest : List ℕ) → quoted_at bytes ≡ Some (a,
 unfolding quoted_at
 quoted_at-takes bytes a rest e = grind (arith, bind_some, cond_some, IsLabel-from_test, last_quote-cuts)
 
-pub quoted_at-again : (a rest : List ℕ) → IsLabel a → HasNoQuote rest → quoted_at (a ++ 34 ∷ rest) ≡ Some (a, rest)
+pub quoted_at-again : (a rest : List ℕ) → IsLabel a → Without 34 rest → quoted_at (a ++ 34 ∷ rest) ≡ Some (a, rest)
 unfolding quoted_at
 quoted_at-again a rest h none =
     let behind : drop (length a + 1) (a ++ 34 ∷ rest) ≡ rest = ap (λ (t : List ℕ). drop (length a + 1) t)

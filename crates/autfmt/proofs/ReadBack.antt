@@ -1,59 +1,32 @@
 -- The text that is written for a system can be read again. The result is the same system, with its transitions in the
 -- order in which they are written.
-use Rattle.std.proofs.Common.{◌≡◌, ◌≢◌, ℕ, leb, rules, ◌+◌, ◌%◌, ◌<◌, ◌≤◌, ◌^◌, true, List, [], ◌∷◌, ◌++◌, length, map}
-use Rattle.std.proofs.Common.{codes, decimal, refl, sym, subst, inl, inr, arith, append_assoc, length-append}
+use Rattle.std.proofs.Common.{◌≡◌, ◌≢◌, ℕ, rules, ◌+◌, ◌<◌, ◌≤◌, ◌^◌, List, [], ◌∷◌, ◌++◌, length, map, codes, decimal}
+use Rattle.std.proofs.Common.{refl, sym, subst, inl, arith, append_assoc, length-append}
 use Rattle.std.proofs.lemmas.Grind.{common_steps}
-use Rattle.std.specs.List.{All, AllZip, AllByRecursion, flat_map, list_all}
-use Rattle.std.proofs.lemmas.Fmt.{decimal_by_steps, length-decimal-le}
+use Rattle.std.specs.List.{AllZip, AllByRecursion, flat_map}
+use Rattle.std.proofs.lemmas.Fmt.{length-decimal-le}
 use Rattle.std.proofs.lemmas.List.{append-nil}
-use Rattle.std.proofs.lemmas.List.Elements.{All-nil, All-cons, All-append, All-push, All-weaker, All-from_recursion}
-use Rattle.std.proofs.lemmas.List.Elements.{recursion_from_All}
-use Rattle.std.proofs.lemmas.List.Sums.{AllPass-from_list_all}
+use Rattle.std.proofs.lemmas.List.Elements.{All-nil, All-cons, All-from_recursion, recursion_from_All}
 use Rattle.std.proofs.lemmas.List.Sorted.{All-permutation, IsPermutation-sym, length_permutation}
 use Rattle.theory.specs.System.{System, Transition, IsSystem, IsAmong, IsLabel}
 use Rattle.autfmt.specs.Bounds.{Bounds, IsWithinFile}
 use Rattle.autfmt.proofs.Blanks.{IsBlank}
-use Rattle.autfmt.proofs.PlainLabels.{IsLabel-plain}
-use Rattle.autfmt.specs.Grammar.{Blanks, Spaced, Label}
+use Rattle.autfmt.proofs.Labels.{IsLabel-spelled}
+use Rattle.autfmt.proofs.Lines.{Header-one, TransitionLine-one}
+use Rattle.autfmt.proofs.Lists.{AllZip-firsts}
+use Rattle.autfmt.specs.Grammar.{Blanks, Spaced, Label, Header}
 use Rattle.autfmt.specs.Texts.{Lines, IsOneLine, IsShort, SpellsTransition, Reads}
 use Rattle.autfmt.specs.Cutter.{with_line_feeds}
 use Rattle.autfmt.specs.Written.{written_label, header_of, written_transition, listed, IsInWrittenOrder}
-
--- `Visible bs` holds if each byte of bs is at least 32. In this case, bs contains no line feed, because a line feed is
--- the byte 10.
-pub record Visible (bs : List ℕ) : Type 0 where
-  pub each : All (λ b. 32 ≤ b) bs
 
 abbrev header_line : System → List ℕ
 header_line A =
     codes "des (" ++ decimal A.first ++ codes ", " ++ decimal (length A.transitions) ++ codes ", "
     ++ decimal A.states ++ codes ")"
 
-pub one_line : (bs : List ℕ) → Visible bs → IsOneLine bs
-one_line bs seen = All-weaker (λ b. 32 ≤ b) (λ b. b ≢ 10) (λ b h e. absurd (omega arith)) bs seen.each
-
-pub visible_append : {xs ys : List ℕ} → Visible xs → Visible ys → Visible (xs ++ ys)
-visible_append a b = record { each = All-append (λ b. 32 ≤ b) _ _ a.each b.each }
-
--- Suppose that the test `leb 32` (is the byte at least 32?) returns true for each byte of bs. Then `Visible bs` holds,
--- which means that each byte of bs is at least 32. The lemma is used for the tokens that the grammar fixes, such as
--- `des` and the comma.
-pub literal : (bs : List ℕ) → list_all (λ b. leb 32 b) bs ≡ true → Visible bs
-literal bs h = search (rules, All-weaker, AllPass-from_list_all)
-
-pub visible_decimal : (n : ℕ) → n < 2 ^ 64 → Visible (decimal n)
-visible_decimal n small =
-    decimal_by_steps (λ n ds. Visible ds)
-    (λ n h. record { each = All-cons (λ b. 32 ≤ b) (48 + n) [] (omega arith) (All-nil (λ b. 32 ≤ b)) })
-    (λ n ds h seen. record { each = All-push (λ b. 32 ≤ b) ds (48 + n % 10) seen.each (omega arith) }) n small
-
-seen_label : (a : List ℕ) → IsLabel a → Visible a
-seen_label a is = record { each = All-weaker (λ b. (32 ≤ b) × (b ≤ 126)) (λ b. 32 ≤ b) (λ b h. h.0) a is.printable }
-
-seen_spelling : (spelling a : List ℕ) → Label spelling a → Visible spelling × (length spelling ≤ 8002)
-seen_spelling spelling a (inl h) = let is = IsLabel-plain a h.0 in rw h.1 (seen_label a is, omega (arith, is.short))
-seen_spelling spelling a (inr h) =
-    grind (arith, common_steps, literal, codes, length-append, visible_append, seen_label, h.0.short)
+length-spelling : (spelling a : List ℕ) → Label spelling a → length spelling ≤ 8002
+length-spelling spelling a label =
+    let is = IsLabel-spelled spelling a label in grind (arith, common_steps, codes, length-append, is.short)
 
 -- The bytes that are written for a label are one of the forms that the grammar allows for this label.
 spells_label : (a : List ℕ) → IsLabel a → Label (written_label a) a
@@ -65,22 +38,13 @@ abbrev pub spelled_line : ℕ → List ℕ → List ℕ → List ℕ → ℕ →
 spelled_line s b spelling d t =
     codes "(" ++ decimal s ++ codes "," ++ b ++ spelling ++ codes "," ++ d ++ decimal t ++ codes ")"
 
-pub spelled_line-one : (s t : ℕ) (b d spelling a : List ℕ) → s < 10 ^ 10 → t < 10 ^ 10 → Visible b → Visible d →
-    Label spelling a → IsOneLine (spelled_line s b spelling d t)
-spelled_line-one s t b d spelling a source target before between is =
-    let comma = literal (codes ",") refl in
-    let first = visible_append
-    (visible_append (visible_append (literal (codes "(") refl) (visible_decimal s (omega arith))) comma) before in
-    let second = visible_append (visible_append (visible_append first (seen_spelling spelling a is).0) comma) between in
-    one_line _ (visible_append (visible_append second (visible_decimal t (omega arith))) (literal (codes ")") refl))
-
 pub spelled_line-short :
     (s t : ℕ) (b d end spelling a : List ℕ) → s < 10 ^ 10 → t < 10 ^ 10 → length b ≤ 1 → length d ≤ 1 → length end ≤ 1 →
     Label spelling a → IsShort (spelled_line s b spelling d t ++ end)
 spelled_line-short s t b d end spelling a source target before between behind is =
     let first = length-decimal-le 10 s (omega arith) source (omega arith) in
     let second = length-decimal-le 10 t (omega arith) target (omega arith) in
-    let third = seen_spelling spelling a is in
+    let third = length-spelling spelling a is in
     simp length-append (omega arith)
 
 -- `IsSpaced tokens line` holds if the line consists of the tokens in their order, with any number of blanks before,
@@ -124,43 +88,17 @@ spaced_header f m n =
     subst (Spaced (codes "des" ∷ codes "(" ∷ f ∷ codes "," ∷ m ∷ codes "," ∷ n ∷ codes ")" ∷ []))
     (simp append_assoc) nested.spaced
 
--- `IsLine line` holds if the list `line` of bytes contains no line feed and is not too long for a line.
-record IsLine (line : List ℕ) : Type 0 where
-  one : IsOneLine line
-  short : IsShort line
-
 -- `transition_line e` is the line that is written for the transition e, without its line feed.
 abbrev transition_line : Transition → List ℕ
 transition_line e = spelled_line e.source (codes " ") (written_label e.label) (codes " ") e.target
 
-transition_is_line : (n : ℕ) → n < 10 ^ 10 → (e : Transition) → IsAmong n e → IsLine (transition_line e)
-transition_is_line n small e among =
-    let spelling = spells_label e.label among.label in
-    let source : e.source < 10 ^ 10 = omega (arith, among.source) in
-    let target : e.target < 10 ^ 10 = omega (arith, among.target) in
-    let space = literal (codes " ") refl in
-    let blank = codes " " in
-    record {
-      one = search (rules, spelled_line-one, e.source, e.target, blank, e.label, source, target, space, spelling);
-      short = subst IsShort (append-nil (transition_line e))
-          (spelled_line-short e.source e.target blank blank [] (written_label e.label) e.label source target
-          (omega arith) (omega arith) (omega arith) spelling);
-    }
-
-header_is_line : (A : System) → A.first < 10 ^ 10 → length A.transitions < 10 ^ 10 → A.states < 10 ^ 10 →
-    IsLine (header_line A)
-header_is_line A first transitions states =
-    let comma = literal (codes ", ") refl in
+header_line-short : (A : System) → A.first < 10 ^ 10 → length A.transitions < 10 ^ 10 → A.states < 10 ^ 10 →
+    IsShort (header_line A)
+header_line-short A first transitions states =
     let f = length-decimal-le 10 A.first (omega arith) first (omega arith) in
     let t = length-decimal-le 10 (length A.transitions) (omega arith) transitions (omega arith) in
     let s = length-decimal-le 10 A.states (omega arith) states (omega arith) in
-    record {
-      one = one_line _ (visible_append (visible_append (visible_append (visible_append (visible_append (visible_append
-          (literal (codes "des (") refl) (visible_decimal A.first (omega arith))) comma)
-          (visible_decimal (length A.transitions) (omega arith))) comma) (visible_decimal A.states (omega arith)))
-          (literal (codes ")") refl));
-      short = simp length-append (omega arith);
-    }
+    simp length-append (omega arith)
 
 spells_transition : (n : ℕ) → n < 10 ^ 10 → (e : Transition) → IsAmong n e → SpellsTransition (transition_line e) e
 spells_transition n small e among =
@@ -170,18 +108,17 @@ spells_transition n small e among =
     let source : e.source < 10 ^ 10 = omega (arith, among.source) in
     let target : e.target < 10 ^ 10 = omega (arith, among.target) in
     let whole = rw (append-nil (transition_line e)) at spaced in
-    let short = (transition_is_line n small e among).short in
-    (short, (_, _, _, (source, refl), spells_label e.label among.label, (target, refl), whole))
+    let spelling = spells_label e.label among.label in
+    let short = subst IsShort (append-nil (transition_line e))
+    (spelled_line-short e.source e.target blank blank [] (written_label e.label) e.label source target (omega arith)
+    (omega arith) (omega arith) spelling) in
+    (short, (_, _, _, (source, refl), spelling, (target, refl), whole))
 
-module _ (n : ℕ) (small : n < 10 ^ 10) where
-  spells_transitions : (es : List Transition) → AllByRecursion (IsAmong n) es →
-      AllZip SpellsTransition (map transition_line es) es
-  spells_transitions [] among = tt
-  spells_transitions (e ∷ es) among = (spells_transition n small e among.0, spells_transitions es among.1)
-
-  one_lines : (es : List Transition) → AllByRecursion (IsAmong n) es → All IsOneLine (map transition_line es)
-  one_lines [] among = All-nil IsOneLine
-  one_lines (e ∷ es) among = All-cons IsOneLine _ _ (transition_is_line n small e among.0).one (one_lines es among.1)
+spells_transitions : (n : ℕ) → n < 10 ^ 10 → (es : List Transition) → AllByRecursion (IsAmong n) es →
+    AllZip SpellsTransition (map transition_line es) es
+spells_transitions n small [] among = tt
+spells_transitions n small (e ∷ es) among =
+    (spells_transition n small e among.0, spells_transitions n small es among.1)
 
 -- The bytes that are written for a transition are the line of the transition and a line feed.
 line_and_feed : (e : Transition) → written_transition e ≡ transition_line e ++ 10 ∷ []
@@ -211,16 +148,15 @@ small_in_file : (bounds : Bounds) (B : System) → IsWithinFile bounds → IsSys
 small_in_file bounds B within system states transitions = search rules
 
 -- The lines of the text that is written for a system are the header and one line for each transition.
-listed_whole : (B : System) → IsSystem B → IsSmall B →
+listed_whole : (B : System) → Header (header_line B) B.first (length B.transitions) B.states →
+    AllZip SpellsTransition (map transition_line B.transitions) B.transitions →
     Lines (listed B) (header_line B ∷ map transition_line B.transitions)
-listed_whole B system small =
-    let es = B.transitions in
-    let each = recursion_from_All (IsAmong B.states) es system.transitions in
-    let head = header_is_line B small.first small.transitions small.states in
-    let lines = All-cons IsOneLine _ _ head.one (one_lines B.states small.states es each) in
-    let none = All-nil (λ b. b ≢ 10) in
-    let all = header_line B ∷ map transition_line es in
-    (all, [], record { whole = listed_lines B; lines = lines; one = none }, sym (append-nil all))
+listed_whole B header spelled =
+    let all = header_line B ∷ map transition_line B.transitions in
+    let lines = AllZip-firsts SpellsTransition IsOneLine
+    (λ line e s. TransitionLine-one line e.source e.label e.target s.1) _ B.transitions spelled in
+    let each = All-cons IsOneLine _ _ (Header-one _ _ _ _ header) lines in
+    (all, [], record { whole = listed_lines B; lines = each; one = All-nil (λ b. b ≢ 10) }, sym (append-nil all))
 
 -- Suppose that a well-formed system is within the limits `bounds`, and that `bounds` does not exceed the limits for
 -- files. Then the header of the system, followed by the lines of its transitions in the order of the system (`listed`),
@@ -229,12 +165,22 @@ listed_reads : (bounds : Bounds) (B : System) → IsWithinFile bounds → IsSyst
     → length B.transitions ≤ bounds.transitions → Reads bounds (listed B) B
 listed_reads bounds B within system states transitions =
     let small = small_in_file bounds B within system states transitions in
+    let header : Header (header_line B) B.first (length B.transitions) B.states =
+    (_, _, _, (small.first, refl), (small.transitions, refl), (small.states, refl), spaced_header _ _ _) in
+    let spelled = spells_transitions B.states small.states B.transitions
+    (recursion_from_All (IsAmong B.states) B.transitions system.transitions) in
     record {
       header = header_line B;
       lines = map transition_line B.transitions;
-      whole = listed_whole B system small;
-      good = search (rules, header_is_line, small.first, small.transitions, small.states, spaced_header, system.first);
-      spelled = search (rules, spells_transitions, small.states, recursion_from_All, system.transitions);
+      whole = listed_whole B header spelled;
+      good = record {
+        short = header_line-short B small.first small.transitions small.states;
+        header = header;
+        first = system.first;
+        states = states;
+        transitions = transitions;
+      };
+      spelled = spelled;
       system = system;
     }
 

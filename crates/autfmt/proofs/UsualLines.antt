@@ -2,7 +2,7 @@
 -- transition at the beginning of some bytes, then the first line of these bytes denotes this transition.
 use Rattle.std.proofs.Common.{◌≡◌, ◌≢◌, ℕ, ◌+◌, ◌^◌, ◌<◌, ◌≤◌, true, false, not, eqb, List, [], ◌∷◌, ◌++◌, length}
 use Rattle.std.proofs.Common.{get_or, take, drop, map, codes, decimal, Some, refl, sym, ap, ◌∙◌, inl, inr, append_assoc}
-use Rattle.std.proofs.Common.{length-append, Bool, arith, rules}
+use Rattle.std.proofs.Common.{append-nil, length-append, Bool, arith}
 use Rattle.std.specs.Char.{is_ascii_digit}
 use Rattle.std.specs.List.{prefix_len}
 use lib.Count.{count_trailing_zeros}
@@ -13,23 +13,20 @@ use Rattle.std.proofs.lemmas.Simd.{length-chunk, trailing_mask_l, run_in_chunk_s
 use Rattle.std.proofs.lemmas.Fmt.{decimal-digits_value}
 use Rattle.std.proofs.lemmas.Str.Parse.{IsNumeralModel, numerals_by_value, tells_by_index, digits_value_short}
 use Rattle.std.proofs.lemmas.List.{take-take, get_or-take, length-take-le, take-append-drop, drop_more}
-use Rattle.std.proofs.lemmas.List.Elements.{All-nil, All-append, All-from_recursion}
+use Rattle.std.proofs.lemmas.List.Elements.{All-from_recursion}
 use Rattle.std.proofs.lemmas.List.Sums.{prefix_len_passes}
 use Rattle.theory.specs.System.{IsLabel}
 use Rattle.autfmt.specs.Grammar.{Blanks, quoted}
-use Rattle.autfmt.specs.Texts.{IsOneLine}
 use Rattle.autfmt.specs.Cutter.{Cutting, CutsLine}
 use Rattle.autfmt.specs.Reading.{past, plain_at}
 use Rattle.autfmt.specs.Usual.{AreDigitsInFront, BeginsWithNumber, FollowsComma, FollowsEnd, HasMark, BeginsWithLabel}
 use Rattle.autfmt.specs.Usual.{BeginsWithTransition}
 use Rattle.autfmt.proofs.Blanks.{IsBlank}
-use Rattle.autfmt.proofs.Cutting.{IsNoFeed}
 use Rattle.autfmt.proofs.Numbers.{digit-range}
 use Rattle.autfmt.proofs.Labels.{quoted-append}
 use Rattle.autfmt.proofs.PlainLabels.{plain_at-takes}
-use Rattle.autfmt.proofs.Lines.{past-takes}
-use Rattle.autfmt.proofs.ReadBack.{Visible, literal, none, a_space, spelled_line, spelled_line-one, spelled_line-short}
-use Rattle.autfmt.proofs.ReadBack.{spaced_line}
+use Rattle.autfmt.proofs.Lines.{past-takes, TransitionLine-one}
+use Rattle.autfmt.proofs.ReadBack.{none, a_space, spelled_line, spelled_line-short, spaced_line}
 
 -- ---- Numbers
 
@@ -105,38 +102,19 @@ plain_in_front bytes a rest e = let h = plain_at-takes bytes a rest e in (a, inl
 
 -- ---- Whole lines
 
--- `IsComma bytes rest` holds if the list `bytes` begins with a comma and at most one space, and `rest` are the bytes
--- after these characters.
-record IsComma (bytes rest : List ℕ) : Type 0 where
-  space : List ℕ
-  blank : Blanks space
-  seen : Visible space
-  short : length space ≤ 1
-  parts : bytes ≡ codes "," ++ (space ++ rest)
+-- `BeginsWithMark mark bytes rest` holds if the list `bytes` begins with `mark` and at most one blank, and `rest` are the
+-- bytes after these characters.
+abbrev BeginsWithMark : List ℕ → List ℕ → List ℕ → Type 0
+BeginsWithMark mark bytes rest =
+    (blank : List ℕ) × Blanks blank × (length blank ≤ 1) × (bytes ≡ mark ++ (blank ++ rest))
 
-is_comma : (bytes rest : List ℕ) → FollowsComma bytes rest → IsComma bytes rest
-is_comma bytes rest (inl e) = grind arith
-is_comma bytes rest (inr e) =
-    record { space = codes " "; blank = a_space; seen = literal (codes " ") refl; short = omega arith; parts = e }
+comma_in_front : (bytes rest : List ℕ) → FollowsComma bytes rest → BeginsWithMark (codes ",") bytes rest
+comma_in_front bytes rest (inl e) = ([], none, omega arith, e)
+comma_in_front bytes rest (inr e) = (codes " ", a_space, omega arith, e)
 
--- `IsEnd bytes rest` holds if the list `bytes` begins with a closing parenthesis, at most one blank and a line feed,
--- and `rest` are the bytes after these characters.
-record IsEnd (bytes rest : List ℕ) : Type 0 where
-  blanks : List ℕ
-  blank : Blanks blanks
-  one : IsOneLine blanks
-  short : length blanks ≤ 1
-  parts : bytes ≡ codes ")" ++ (blanks ++ 10 ∷ rest)
-
-is_end : (bytes rest : List ℕ) → FollowsEnd bytes rest → IsEnd bytes rest
-is_end bytes rest (inl e) = record { blanks = []; blank = none; one = All-nil IsNoFeed; short = omega arith; parts = e }
-is_end bytes rest (inr e) = record {
-  blanks = 13 ∷ [];
-  blank = All-from_recursion IsBlank (13 ∷ []) (inr (inr refl), tt);
-  one = All-from_recursion IsNoFeed (13 ∷ []) (λ h. absurd (omega arith), tt);
-  short = omega arith;
-  parts = e;
-}
+end_in_front : (bytes rest : List ℕ) → FollowsEnd bytes rest → BeginsWithMark (codes ")") bytes (10 ∷ rest)
+end_in_front bytes rest (inl e) = ([], none, omega arith, e)
+end_in_front bytes rest (inr e) = (13 ∷ [], All-from_recursion IsBlank (13 ∷ []) (inr (inr refl), tt), omega arith, e)
 
 -- Suppose that the tokens of a transition are read from the beginning of a list of bytes, one after the other. Then the
 -- list begins with the line of this transition.
@@ -144,20 +122,17 @@ pub transition_in_front : (bytes r0 r1 r2 r3 r4 r5 r6 : List ℕ) (s : ℕ) (a :
     → BeginsWithNumber r0 s r1 → FollowsComma r1 r2 → BeginsWithLabel r2 a r3
     → FollowsComma r3 r4 → BeginsWithNumber r4 t r5 → FollowsEnd r5 r6 → BeginsWithTransition bytes s a t r6
 transition_in_front bytes r0 r1 r2 r3 r4 r5 r6 s a t e0 source e1 (spelling, label, e2) e3 target e5 =
-    let b = is_comma r1 r2 e1 in
-    let d = is_comma r3 r4 e3 in
-    let z = is_end r5 r6 e5 in
+    let (b, before, short, p) = comma_in_front r1 r2 e1 in
+    let (d, between, short', q) = comma_in_front r3 r4 e3 in
+    let (z, last, few, r) = end_in_front r5 r6 e5 in
     let nested : bytes ≡ codes "("
-    ++ (decimal s ++ (codes "," ++
-    (b.space ++ (spelling ++ (codes "," ++ (d.space ++ (decimal t ++ (codes ")" ++ (z.blanks ++ 10 ∷ r6))))))))) =
-    cc (past-takes 40 bytes r0 e0, b.parts, d.parts, z.parts) in
+    ++ (decimal s ++ (codes "," ++ (b ++ (spelling ++ (codes "," ++ (d ++ (decimal t ++ (codes ")" ++ (z ++ 10 ∷ r6))))))))) =
+    cc (past-takes 40 bytes r0 e0, p, q, r) in
     record {
-      line = spelled_line s b.space spelling d.space t ++ z.blanks;
+      line = spelled_line s b spelling d t ++ z;
       whole = nested ∙ simp append_assoc;
-      spelled = grind (arith, spaced_line, b.space, d.space, z.blanks, b.blank, d.blank, z.blank);
-      one = All-append IsNoFeed (spelled_line s b.space spelling d.space t) z.blanks
-          (spelled_line-one s t b.space d.space spelling a source.0 target.0 b.seen d.seen label) z.one;
-      short = search (rules, spelled_line-short, b.space, d.space, z.blanks, b.short, d.short, z.short);
+      spelled = grind (arith, spaced_line, b, d, z, before, between, last);
+      short = spelled_line-short s t b d z spelling a source.0 target.0 short short' few label;
     }
 
 -- The line splitter (`Cutter`) divides the input into lines. If the list `bytes` begins with the line of a transition
@@ -170,7 +145,11 @@ behind {rest = rest} front = record { line = front.line; ahead = rest; over = fa
 -- further bytes from the source (the object from which the input is read).
 pub cuts_in_front : (bytes : List ℕ) (s : ℕ) (a : List ℕ) (t : ℕ) (rest : List ℕ) →
     (front : BeginsWithTransition bytes s a t rest) → CutsLine (bytes ++ []) (behind front)
-cuts_in_front bytes s a t rest front = search rules
+cuts_in_front bytes s a t rest front = record {
+  one = TransitionLine-one front.line s a t front.spelled;
+  short = front.short;
+  behind = inl (refl, append-nil bytes ∙ front.whole);
+}
 
 -- Suppose that the bytes that are not yet divided into lines begin with the line of a transition. Then the line
 -- splitter has not recorded that the source (the object from which the input is read) has ended.

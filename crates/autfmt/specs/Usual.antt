@@ -5,7 +5,7 @@ use Rattle.std.specs.Char.{is_ascii_digit}
 use Rattle.std.specs.List.{prefix_len}
 use Rattle.std.specs.Str.Parse.{digits_value}
 use Rattle.autfmt.specs.Grammar.{Label, TransitionLine}
-use Rattle.autfmt.specs.Texts.{IsOneLine, IsShort}
+use Rattle.autfmt.specs.Texts.{IsShort}
 
 -- `AreDigitsInFront bytes n v` holds if all three of the following conditions hold. First, the list `bytes` contains at
 -- least eight items. Second, the list begins with exactly n digits, where n is between 1 and 7. Third, these digits
@@ -48,5 +48,4 @@ pub record BeginsWithTransition (bytes : List ℕ) (s : ℕ) (a : List ℕ) (t :
   pub line : List ℕ
   pub whole : bytes ≡ line ++ 10 ∷ rest
   pub spelled : TransitionLine line s a t
-  pub one : IsOneLine line
   pub short : IsShort line
