@@ -6,7 +6,7 @@ use Rattle.std.proofs.Math.Nat.{suc-mul}
 use Rattle.theory.specs.Blocks.{Turns}
 use Rattle.lts.specs.Meter.{Costs, CostsUpTo}
 use Rattle.lts.specs.Lts.{system_of}
-use Rattle.refine_core.specs.IndexState.{IsNextRound, AreRounds}
+use Rattle.refine_core.specs.IndexState.{AreAllActive, IsNextRound, AreRounds}
 use Rattle.partition.specs.Blocks.{RoundBlocks}
 use Rattle.partition.specs.Renumberings.{WereHalved}
 use Rattle.partition.proofs.CallerLemmas.{one_block}
@@ -40,20 +40,13 @@ loop-before-init g c =
 pub next_round-requires-clause-ready_for_round : goal.next_round-requires-clause-ready_for_round
 next_round-requires-clause-ready_for_round g c =
     let a = c.loop-before.invariant.awaits in
-    let leaves = c.in_ok-before.ensures.leaves in
-    rw c.in_ok-before.ensures.same (record {
-      old = a.old;
-      is = record {
-        states = a.is.states;
-        follows = a.is.follows;
-        all = λ none s h. elim (a.is.all none s h) [
-          | inl one ↦ ⊎_map (λ one. one) inl (leaves.are s one)
-          | inr other ↦ inr other
-        ];
-        index = a.is.index;
-      };
-      later = a.later;
-    })
+    let r = c.loop-before.round in
+    let all : r.index ≡ None → AreAllActive c.args.l.now r.blocks.block_ids c.in_ok-before.before.blocks.active
+    = λ none s h. elim (a.is.all none s h) [
+      | inl one ↦ ⊎_map (λ one. one) inl (c.in_ok-before.ensures.leaves.are s one)
+      | inr other ↦ inr other
+    ] in
+    rw c.in_ok-before.ensures.same (record { old = a.old; is = search (rules, a.is, all); later = a.later })
 
 pub next_round-requires-clause-room : goal.next_round-requires-clause-room
 next_round-requires-clause-room g c =
