@@ -5,11 +5,11 @@
 -- split signatures has the same result as a split by the signatures. The last proofs are about the signatures that are
 -- cached from round to round for branching bisimilarity. They show that, if the cached signatures are correct before a
 -- round, then the cached signatures are also correct after the round.
-use Rattle.std.proofs.Common.{rules, ◌≡◌, ◌⊎◌, ◌↔◌, ◌∙◌, ℕ, ◌<◌, ◌≤◌, List, [], ◌++◌, length, take, slice_index, Option}
+use Rattle.std.proofs.Common.{rules, ◌≡◌, ◌⊎◌, ◌↔◌, ◌∙◌, ℕ, ◌<◌, List, [], ◌++◌, length, take, slice_index, Option}
 use Rattle.std.proofs.Common.{None, Some, subst, sym, ap, refl, inl, inr, arith}
 use Rattle.std.proofs.lemmas.Grind.{common_steps}
 use Rattle.std.proofs.Math.Logic.{⊎_map}
-use Rattle.std.proofs.lemmas.List.{get_or_default, take_at}
+use Rattle.std.proofs.lemmas.List.{take_at}
 use Rattle.theory.specs.declared.relation.Relation.{Relation}
 use Rattle.theory.specs.declared.relation.Relation.TheVariants.{Strong, Branching}
 use Rattle.theory.specs.Blocks.{SameSignature}
@@ -27,23 +27,13 @@ use Rattle.refine_core.specs.Signatures.{IsStrongSplitSignature}
 use Rattle.refine_core.specs.IndexState.{IsReadyToSign, SignsRound}
 use Rattle.refine_core.proofs.StrongSignatures.{Labelled, labels_have_ids, unaffected_as_before, as_before_unaffected}
 
--- Suppose that the list `signature_ids` contains the ID of an interned signature for each of the n states. Suppose that
--- the list contains the ID of the empty signature for each state that is not active (not processed by the round).
--- Suppose that further elements are appended to this list. Then the first n elements of the longer list satisfy these
--- two conditions, too (`HaveSignatures`).
-pub written_back : (of active : List ℕ) (signatures : List (List (ℕ × ℕ))) (signature_ids rest : List ℕ) (n : ℕ)
-    → AreIds signatures signature_ids → InactiveHaveNone active signature_ids
-    → length signature_ids ≡ length of → length signature_ids ≡ n
-    → HaveSignatures of active signatures (take n (signature_ids ++ rest))
-written_back of active signatures signature_ids rest n each none states all = search (rules, take_at)
-
--- The empty signature has the ID 0. Suppose that the list `signature_ids` contains the ID 0 for each state, and that at
--- least one signature is interned. Then this list contains the ID of an interned signature for each state.
-pub emptied : {of active signature_ids : List ℕ} {signatures : List (List (ℕ × ℕ))} {n : ℕ} → 1 ≤ length signatures
-    → ((s : ℕ) → s < n → slice_index signature_ids s ≡ 0) → length signature_ids ≡ n → n ≡ length of
-    → HaveSignatures of active signatures signature_ids
-emptied {signature_ids = signature_ids} {signatures = signatures} some empty same states
-    = search (rules, get_or_default)
+-- Suppose that the list `signature_ids` contains a signature ID for each state, and the ID of the empty signature for
+-- each state that is not active (not processed by the round). Suppose that further elements are appended to this list.
+-- Then the first n elements of the longer list satisfy these two conditions, too, if n is the number of states.
+pub written_back : (of active signature_ids rest : List ℕ) (n : ℕ) → length signature_ids ≡ n
+    → length signature_ids ≡ length of → InactiveHaveNone active signature_ids
+    → (length (take n (signature_ids ++ rest)) ≡ length of) × InactiveHaveNone active (take n (signature_ids ++ rest))
+written_back of active signature_ids rest n all states none = rw (take_at signature_ids rest n all) (states, none)
 
 -- Different interned signatures have different IDs. So a split that compares the signature IDs of states has the same
 -- result as a split that compares the signatures of states.
@@ -115,7 +105,7 @@ IsSplitSignature rel l old of s list = ((list ≡ []) × IsAsBefore rel l old of
 -- signature of an active state in a singleton block (a block with one state) may be any list.
 module _ (rel : Relation) (l : Grouped) (lts : IsLts l) (r : Signed) (ready : IsReadyToSign rel l r)
     (signatures : List (List (ℕ × ℕ))) (signature_ids : List ℕ) (first : list_at signatures 0 ≡ [])
-    (have : length signature_ids ≡ l.states) (none : InactiveHaveNone r.blocks.active signature_ids)
+    (have : HaveSignatures r.blocks.block_ids r.blocks.active signatures signature_ids)
     (given : (s : ℕ) → s < l.states → IsMember r.blocks.active s → IsSingleton r.blocks.block_ids s
     ⊎ IsSplitSignature rel l ready.old r.blocks.block_ids s (list_of signatures signature_ids s)) where
   abbrev blocks : List ℕ
@@ -163,7 +153,7 @@ module _ (rel : Relation) (l : Grouped) (lts : IsLts l) (r : Signed) (ready : Is
       equal_lists rel l (labels_have_ids l lts) blocks s t _ _ p.2 q.2
 
   each : (s : ℕ) → s < l.states → Each s
-  each s h = grind (arith, ready.others s h, none s, given s h, have, first)
+  each s h = grind (arith, ready.others s h, have.none s, given s h, have.states, ready.is.states, first)
 
   tells : (s t : ℕ) → s < l.states → t < l.states → slice_index blocks s ≡ slice_index blocks t → Tells s t
   tells s t ls lt one = told s t ls lt one (each s ls) (each t lt)
@@ -174,14 +164,15 @@ module _ (rel : Relation) (l : Grouped) (lts : IsLts l) (r : Signed) (ready : Is
 -- has computed the signatures correctly (`SignsRound`).
 pub strong_signs : (l : Grouped) → IsLts l → (r : Signed) → IsReadyToSign Strong l r
     → (signatures : List (List (ℕ × ℕ))) (signature_ids : List ℕ) → list_at signatures 0 ≡ []
-    → length signature_ids ≡ l.states → InactiveHaveNone r.blocks.active signature_ids
+    → HaveSignatures r.blocks.block_ids r.blocks.active signatures signature_ids
     → ((s : ℕ) → IsMember r.blocks.active s → IsStrongSplitSignature l r.blocks.block_ids r.blocks.first_new s
     (list_of signatures signature_ids s))
     → SignsRound Strong l r (record r { signatures = signatures; signature_ids = signature_ids })
-strong_signs l lts r ready signatures signature_ids first have none put = record {
+strong_signs l lts r ready signatures signature_ids first have put = record {
   blocks = refl;
   index = refl;
-  tells = tells Strong l lts r ready signatures signature_ids first have none (λ s h one. inr (⊎_map
+  have = have;
+  tells = tells Strong l lts r ready signatures signature_ids first have (λ s h one. inr (⊎_map
       (λ p. (p.0, unaffected_as_before l lts.system ready.old _ _ ready.is.follows s p.1))
       (λ q. (q.0, λ same. q.1 (as_before_unaffected l lts.system ready.old _ _ ready.is.follows s same), q.2))
       (put s one)));
@@ -248,7 +239,7 @@ module _ (l : Grouped) (r : Signed) (ready : IsReadyToSign Branching l r) where
   -- has not changed since the last round, and otherwise it is the new signature.
   module _ (signatures : List (List (ℕ × ℕ))) (cached signature_ids : List ℕ) (are : AreLists signatures)
       (signs : SignsActive l of active r.signatures signatures r.cached cached signature_ids)
-      (have : length signature_ids ≡ l.states) (none : InactiveHaveNone active signature_ids) where
+      (size : length signature_ids ≡ length of) (none : InactiveHaveNone active signature_ids) where
     within : (s : ℕ) → s < l.states → slice_index r.cached s < length r.signatures
     within s h = let keeps = ready.cached refl in keeps.signature_ids s 0 (omega (arith, h, keeps.states))
 
@@ -313,7 +304,9 @@ module _ (l : Grouped) (r : Signed) (ready : IsReadyToSign Branching l r) where
     branching_signs lts = record {
       blocks = refl;
       index = refl;
-      tells = tells Branching l lts r ready signatures signature_ids are.first have none
+      have = record { each = signs.ids; states = size; none = none };
+      tells = tells Branching l lts r ready signatures signature_ids are.first
+          (record { each = signs.ids; states = size; none = none })
           (λ s h one. ⊎_map (λ alone. alone) (split_id lts s h one) ((ready.cached refl).each s h));
       cached = λ branching. record {
         states = signs.states;

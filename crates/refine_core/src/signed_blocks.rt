@@ -2,10 +2,10 @@
 //! signatures, and the predecessor index, which stores the transitions that lead to each state.
 ghost use Rattle.std.specs.Prelude.{◌≡◌, ◌⊎◌, ℕ, ◌+◌, ◌*◌, ◌<◌, ◌≤◌, [], length, slice_index, IfOk, None, Some};
 ghost use Rattle.memory.specs.declared.limits.TheConstants.{MOST_STATES};
-ghost use Rattle.signatures.specs.Lists.{AreLists};
+ghost use Rattle.signatures.specs.Lists.{AreIds, AreLists};
 ghost use Rattle.partition.specs.Partition.{AreBlocks};
 ghost use Rattle.partition.specs.Blocks.{AreActive, AreSplitBlocks, DropsSingletons, InactiveHaveNone};
-ghost use Rattle.refine_core.specs.Signatures.{HaveSignatures, HasNoSignatures};
+ghost use Rattle.refine_core.specs.Signatures.{HasNoSignatures};
 ghost use Rattle.refine_core.specs.IndexState.{AreAllActive, Awaits, IsReadyToSign, MayBuildIndex};
 ghost use Rattle.refine_core.specs.Index.{HasVisited};
 ghost use Rattle.theory.specs.declared.relation.Relation.{Relation};
@@ -75,7 +75,9 @@ pub struct SignedBlocks {
 }
 
 impl Model for SignedBlocks {
-    ghost use Rattle.refine_core.specs.Signatures.{Signed, HaveSignatures};
+    ghost use Rattle.std.specs.Prelude.{◌≡◌, length};
+    ghost use Rattle.partition.specs.Blocks.{InactiveHaveNone};
+    ghost use Rattle.refine_core.specs.Signatures.{Signed};
 
     ghost Value = { Signed };
 
@@ -88,7 +90,8 @@ impl Model for SignedBlocks {
       visited = r.visited;
     } };
 
-    ghost invariant = { λ r. HaveSignatures r.blocks.block_ids r.blocks.active r.signatures r.signature_ids.items };
+    ghost invariant = { λ r. (length r.signature_ids.items ≡ length r.blocks.block_ids)
+        × InactiveHaveNone r.blocks.active r.signature_ids.items };
 }
 
 impl SignedBlocks {
@@ -141,8 +144,8 @@ impl SignedBlocks {
     pub fn invariants(&self)
         ensures blocks { AreBlocks self.now.blocks.block_ids self.now.blocks.count }
         ensures signatures { AreLists self.now.signatures }
-        ensures have { HaveSignatures self.now.blocks.block_ids self.now.blocks.active
-            self.now.signatures self.now.signature_ids }
+        ensures states { length self.now.signature_ids ≡ length self.now.blocks.block_ids }
+        ensures none { InactiveHaveNone self.now.blocks.active self.now.signature_ids }
         ensures active { AreActive (length self.now.blocks.block_ids) self.now.blocks.active }
     {
         self.signatures.invariants();
@@ -167,7 +170,6 @@ impl SignedBlocks {
         if self.index.is_some() {
             return Ok(self);
         }
-        self.signatures.invariants();
         let blocks = self
             .blocks
             .drop_singletons(self.alloc, &mut self.signature_ids)?;
@@ -181,8 +183,9 @@ impl SignedBlocks {
             × (r.visited ≡ self.visited)) }
         ensures discarded { IfOk result
             (λ r. HasNoSignatures r.blocks.block_ids r.signatures r.cached) }
+        ensures none { IfOk result (λ r. (s : ℕ) → s < length r.signature_ids
+            → slice_index r.signature_ids s ≡ 0) }
     {
-        self.signatures.invariants();
         let states = self.blocks.block_ids().len() as u32;
         forget(&mut self.signature_ids, &self.blocks);
         self.signatures.clear();
@@ -299,7 +302,6 @@ impl SignedBlocks {
             relation,
         };
         let (predecessors, active) = predecessors.search_back(&search, &mut self.visited, m)?;
-        self.signatures.invariants();
         forget(&mut self.signature_ids, &self.blocks);
         let blocks = self.blocks.with_active(active);
         Ok(SignedBlocks {
@@ -332,7 +334,8 @@ impl SignedBlocks {
 
     /// Splits the blocks. Two states of a block stay together if and only if `signature_ids` contains the same ID for
     /// both states.
-    pub fn split(self) -> Result<SignedBlocks, Memory>
+    pub(crate) fn split(self) -> Result<SignedBlocks, Memory>
+        requires ids { AreIds self.signatures self.signature_ids }
         ensures same { IfOk result (λ q. q ≡ record self { blocks = q.blocks }) }
         ensures split { IfOk result
             (λ q. AreSplitBlocks self.blocks self.signature_ids q.blocks) }

@@ -1,4 +1,4 @@
-use Rattle.std.proofs.Common.{◌∙◌, sym, subst, arith}
+use Rattle.std.proofs.Common.{sym, subst, arith}
 use Rattle.std.proofs.lemmas.List.{take_at}
 use Rattle.inert.specs.Signed.{SignsActive}
 use Rattle.refine_core.proofs.Signatures.{written_back, cached_beside, branching_signs}
@@ -11,16 +11,15 @@ sign_each-requires-clause-cached g c =
 pub invariant_of-round : goal.invariant_of-round
 invariant_of-round g c =
     let old = c.round.inside.blocks in
-    written_back old.block_ids old.active c.sign_each.new.signatures c.sign_each.new.signature_ids _ _
-    c.in_ok-sign_each.ensures.signs.ids c.sign_each.ensures.others (omega (arith, c.round.invariant.states))
-    (omega arith)
+    written_back old.block_ids old.active c.sign_each.new.signature_ids _ _ (omega arith)
+    (omega (arith, c.round.invariant.0)) c.sign_each.ensures.others
 
 pub returns-clause-signed : goal.returns-clause-signed
 returns-clause-signed g c =
     let r = c.round.inside in
-    let have = c.invariants-3.ensures.have in
+    let known = c.invariants-3.ensures in
     let ready = rw (sym c.round.view_is) at c.requires.ready in
-    rw (sym c.round.view_is) (branching_signs c.args.l.now _ ready _ _ _ c.invariants-3.ensures.signatures
+    rw (sym c.round.view_is) (branching_signs c.args.l.now _ ready _ _ _ known.signatures
     (subst (SignsActive c.args.l.now r.blocks.block_ids r.blocks.active r.signatures c.sign_each.new.signatures r.signer
     c.sign_each.new.self) (sym (take_at _ _ _ (omega (arith, c.sign_each.auto.signature_ids, c.deref_mut.ensures.len))))
-    c.in_ok-sign_each.ensures.signs) (have.states ∙ ready.is.states) have.none c.invariants.ensures)
+    c.in_ok-sign_each.ensures.signs) known.states known.none c.invariants.ensures)

@@ -1,14 +1,10 @@
-use Rattle.std.proofs.Common.{◌∙◌, length, ap, refl, sym, arith}
-use Rattle.refine_core.proofs.Signatures.{emptied}
+use Rattle.std.proofs.Common.{refl, sym, inr}
 use Rattle.refine_core.proofs.IndexStates.{begun_all}
 use Rattle.refine_core.proofs.signed_blocks.SignedBlocks.activate_all.Goals as goal
 
 pub invariant_of-result : goal.invariant_of-result
-invariant_of-result g c =
-    let have = c.round.invariant in
-    let one = ap length (ap (λ r. r.signatures) c.round.view_is ∙ c.in_ok-round.ensures.discarded.only) in
-    rw c.with_active-blocks.ensures.same
-    (emptied (omega (arith, one)) (λ s h. omega (arith, one, have.each s 0 h)) refl have.states)
+invariant_of-result g c = let none = rw (sym c.round.view_is) at c.in_ok-round.ensures.none in
+    rw c.with_active-blocks.ensures.same (c.round.invariant.0, λ s h. inr (none s h))
 
 pub returns-clause-begun : goal.returns-clause-begun
 returns-clause-begun g c rel awaits = let round = rw (sym c.round.view_is) at c.in_ok-round.ensures in

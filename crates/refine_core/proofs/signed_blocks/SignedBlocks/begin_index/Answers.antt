@@ -1,12 +1,13 @@
-use Rattle.std.proofs.Common.{rules, ◌∙◌, length, ap, refl, arith, inl, inr}
-use Rattle.refine_core.proofs.Signatures.{emptied}
+use Rattle.std.proofs.Common.{rules, ◌∙◌, ap, refl, inl, inr, arith}
 use Rattle.refine_core.proofs.IndexStates.{none_visited}
 use Rattle.refine_core.proofs.signed_blocks.SignedBlocks.begin_index.Goals as goal
 
 pub invariant_of-result : goal.invariant_of-result
-invariant_of-result g c =
-    rw (c.in_ok-blocks.ensures) (emptied (omega (arith, ap length c.in_ok-self-inside.ensures)) c.forget.ensures.empty
-    c.forget.ensures.states c.self.invariant.states)
+invariant_of-result g c = rw (c.in_ok-blocks.ensures) (
+  c.forget.ensures.states ∙ c.self.invariant.0,
+  λ s h.
+      inr (c.forget.ensures.empty s (omega (arith, h, c.forget.ensures.states))),
+)
 
 pub returns-then-not-needs_index-clause-begins : goal.returns-then-not-needs_index-clause-begins
 returns-then-not-needs_index-clause-begins g c = rw c.needs_index.ensures

@@ -1,7 +1,9 @@
-use Rattle.std.proofs.Common.{length, ap, arith}
-use Rattle.refine_core.proofs.Signatures.{emptied}
+use Rattle.std.proofs.Common.{◌∙◌, inr, arith}
 use Rattle.refine_core.proofs.signed_blocks.SignedBlocks.discard_signatures.Goals as goal
 
 pub invariant_of-self : goal.invariant_of-self
-invariant_of-self c = emptied (omega (arith, ap length c.clear.ensures)) c.forget.ensures.empty
-    c.forget.ensures.states c.self.invariant.states
+invariant_of-self c = (
+  c.forget.ensures.states ∙ c.self.invariant.0,
+  λ s h.
+      inr (c.forget.ensures.empty s (omega (arith, h, c.forget.ensures.states))),
+)

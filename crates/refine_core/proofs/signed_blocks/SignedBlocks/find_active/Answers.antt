@@ -1,12 +1,13 @@
-use Rattle.std.proofs.Common.{sym}
-use Rattle.refine_core.proofs.Signatures.{emptied}
+use Rattle.std.proofs.Common.{◌∙◌, sym, inr, arith}
 use Rattle.refine_core.proofs.IndexStates.{searched}
 use Rattle.refine_core.proofs.signed_blocks.SignedBlocks.find_active.Goals as goal
 
 pub invariant_of-result : goal.invariant_of-result
-invariant_of-result g c =
-    rw c.with_active-blocks.ensures.same
-    (emptied c.invariants-2.ensures.some c.forget.ensures.empty c.forget.ensures.states c.self.invariant.states)
+invariant_of-result g c = rw c.with_active-blocks.ensures.same (
+  c.forget.ensures.states ∙ c.self.invariant.0,
+  λ s h.
+      inr (c.forget.ensures.empty s (omega (arith, h, c.forget.ensures.states))),
+)
 
 pub returns-clause-begun : goal.returns-clause-begun
 returns-clause-begun g c = let done = c.in_ok-predecessors.ensures in
