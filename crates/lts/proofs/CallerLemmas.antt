@@ -5,5 +5,5 @@ pub use Rattle.lts.proofs.Filters.{filter-whole, length-filter-sum}
 pub use Rattle.lts.proofs.Joining.{take-split}
 pub use Rattle.lts.proofs.Leaving.{index-fewer, index-leaves}
 pub use Rattle.lts.proofs.Rows.{before-mono, before-next, IsRow-before, before-le}
-pub use Rattle.lts.proofs.Visits.{visited_add, visited_few, all_visited, left_counts, left_none, row_left}
+pub use Rattle.lts.proofs.Visits.{visited_add, visited_few, all_visited, none_visited, visits_left, left_none, row_left}
 pub use Rattle.lts.proofs.Visits.{price_none, price_first, price_split, price_one_more}

@@ -4,20 +4,21 @@
 use Rattle.std.proofs.Common.{rules, ◌≡◌, ◌∙◌, ◌↔◌, ℕ, suc, ◌+◌, ◌-◌, ◌<◌, ◌≤◌, Bool, true, false, not, cond, ◌&&◌, eqb}
 use Rattle.std.proofs.Common.{List, [], ◌∷◌, ◌++◌, length, map, Contains, sym, ap, subst, refl, arith}
 use Rattle.std.specs.Bool.{Decides}
-use Rattle.std.specs.List.{All, filter, sum_by, range_with_len}
+use Rattle.std.specs.List.{All, IsDistinct, filter, sum_by, range_with_len}
 use Rattle.std.proofs.Math.Bool.{and_comm}
 use Rattle.std.proofs.lemmas.Bool.{cases_Bool, false_from_ne_true, eq-eqb, ne_eqb, eqb-true}
 use Rattle.std.proofs.lemmas.Bool.Decides.{Decides-eqb}
 use Rattle.std.proofs.lemmas.Cmp.{nat_eq_equiv}
 use Rattle.std.proofs.lemmas.List.{length-append, length-map, append-nil, places, same_lists}
-use Rattle.std.proofs.lemmas.List.Elements.{All-contains, All-push, filter-append}
+use Rattle.std.proofs.lemmas.List.Elements.{All-contains, All-nil, All-push, filter-append}
 use Rattle.std.proofs.lemmas.List.Filters.{length-filter_both}
 use Rattle.std.proofs.lemmas.List.FromFn.{length-range_with_len, get_or-range_with_len, fill_by_all}
 use Rattle.std.proofs.lemmas.List.Sums.{length-filter, sum_by-cons, sum_by-append}
 use Rattle.std.proofs.lemmas.Map.Keys.{IsDistinct-push, IsDistinct-from_apart}
 use Rattle.std.proofs.lemmas.Map.Made.{is_member-Decides, length-IsIntersection}
 use Rattle.lts.specs.Lts.{Triple, source_of, row_of, place_at, IsRow}
-use Rattle.lts.specs.Visited.{AreVisited, is_visited, price, price_between, remaining_of}
+use Rattle.lts.specs.Meter.{Counts}
+use Rattle.lts.specs.Visited.{AreVisited, HasVisited, is_visited, price, price_between, remaining_of}
 use Rattle.lts.proofs.Filters.{filter-none, filter-whole, filter-filter, filter-map}
 
 pub visited_Decides : (visited : List ℕ) (k : ℕ) → Decides (is_visited visited k) (Contains visited k)
@@ -141,3 +142,17 @@ left_counts places visited are = let all : List ℕ = range_with_len 0 (length p
 
 pub visited_few : (places : List Triple) (visited : List ℕ) → AreVisited places visited → length visited ≤ length places
 visited_few places visited are = omega (arith, left_counts places visited are)
+
+-- A visit is a read of a transition that the meter counts. Suppose that the list `visited` of the places (indices) of
+-- the visited transitions is empty, and that the counts of the meter have not changed. Then the number of counted
+-- visits is the length of `visited`, and no round was counted (`HasVisited`).
+pub none_visited : (places : List Triple) (at : Counts) (visited : List ℕ) → visited ≡ [] →
+    HasVisited places at at visited
+unfolding IsDistinct
+none_visited places at visited none = rw none (search (rules, All-nil))
+
+-- The number of transitions that were not visited yet, plus the number of visits that the meter has counted since an
+-- earlier time (`HasVisited`), is the number of all transitions.
+pub visits_left : {places : List Triple} {start now : Counts} {visited : List ℕ} → HasVisited places start now visited →
+    length (remaining_of visited places) + now.visits ≡ start.visits + length places
+visits_left {places} {visited = visited} has = omega (arith, left_counts places visited has.are, has.visits)

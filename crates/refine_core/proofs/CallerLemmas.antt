@@ -3,4 +3,3 @@
 pub use Rattle.refine_core.proofs.StrongSignatures.{Labelled, row_signature}
 pub use Rattle.refine_core.proofs.Signatures.{Splits-signatures, equal_lists}
 pub use Rattle.refine_core.proofs.Searching.{none_marked, marked_more, found_few}
-pub use Rattle.refine_core.proofs.IndexStates.{none_visited}

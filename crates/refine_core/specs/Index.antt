@@ -3,7 +3,7 @@
 -- backwards along transitions, which it looks up in the index. This file defines which states the search has to find,
 -- and what holds while the search is in progress. The place of a transition is its index in the list of all
 -- transitions.
-use Rattle.std.specs.Prelude.{◌≡◌, ◌⊎◌, ℕ, ◌+◌, ◌<◌, ◌≤◌, ◌==◌, Bool, true, false, IsTrue, List, length}
+use Rattle.std.specs.Prelude.{◌≡◌, ◌⊎◌, ℕ, ◌<◌, ◌≤◌, ◌==◌, Bool, true, false, IsTrue, List, length}
 use Rattle.std.specs.Prelude.{slice_index, slice_index_or}
 use Rattle.std.specs.List.{All, IsDistinct}
 use Rattle.std.specs.Io.{StartsWith}
@@ -13,7 +13,7 @@ use Rattle.theory.specs.declared.relation.Relation.TheVariants.{Branching}
 use Rattle.lts.specs.Labels.{text_of}
 use Rattle.lts.specs.Lts.{Grouped, Triple, source_of, label_of, target_of, place_at}
 use Rattle.lts.specs.Incoming.{Entries, IsIndex}
-use Rattle.lts.specs.Visited.{AreVisited}
+use Rattle.lts.specs.Visited.{HasVisited}
 use Rattle.lts.specs.Meter.{Counts, HasRoomFor}
 use Rattle.partition.specs.Splitting.{IsSingleton}
 use Rattle.partition.specs.Blocks.{RoundBlocks, AreActive, IsMember}
@@ -92,16 +92,6 @@ pub record HasLookedUp (inert : Bool) (l : Grouped) (of : List ℕ) (t : ℕ) (b
   pub more : StartsWith found before
   pub sources : FindsSources inert l of found t
   pub others : (s : ℕ) → ¬ (s ≡ t) → IsNotLookedUp l.places old s → IsNotLookedUp l.places visited s
-
--- The place of a transition is its index in the list of all transitions, and a visit is a read of a transition that the
--- meter counts. The counts of the meter were `old` at an earlier time, and are `new` now. `HasVisited` holds if all
--- three of the following conditions hold. First, the list `visited` contains places of transitions, and contains no
--- place twice. Second, the number of visits that the meter has counted since the earlier time is the length of
--- `visited`. Third, the meter has counted no round since then.
-pub record HasVisited (places : List Triple) (old new : Counts) (visited : List ℕ) : Type 0 where
-  pub are : AreVisited places visited
-  pub rounds : new.rounds ≡ old.rounds
-  pub visits : new.visits ≡ old.visits + length visited
 
 -- `IsUnmarked` holds if no state is marked, which means that no element of the list `marks` is true.
 abbrev pub IsUnmarked : List Bool → Type 0

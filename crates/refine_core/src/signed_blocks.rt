@@ -7,9 +7,9 @@ ghost use Rattle.partition.specs.Partition.{AreBlocks};
 ghost use Rattle.partition.specs.Blocks.{AreActive, AreSplitBlocks, DropsSingletons, InactiveHaveNone};
 ghost use Rattle.refine_core.specs.Signatures.{HasNoSignatures};
 ghost use Rattle.refine_core.specs.IndexState.{AreAllActive, Awaits, IsReadyToSign, MayBuildIndex};
-ghost use Rattle.refine_core.specs.Index.{HasVisited};
 ghost use Rattle.theory.specs.declared.relation.Relation.{Relation};
 ghost use Rattle.lts.specs.Meter.{HasRoomFor, Costs};
+ghost use Rattle.lts.specs.Visited.{HasVisited};
 
 use crate::predecessors::{Predecessors, Search};
 use inert::Signer;

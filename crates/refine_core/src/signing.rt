@@ -4,12 +4,11 @@ ghost use Rattle.std.specs.Prelude.{◌≡◌, ◌<◌, ℕ, length, IfOk};
 ghost use Rattle.theory.specs.declared.relation.Relation.{Relation};
 ghost use Rattle.theory.specs.declared.relation.Relation.TheVariants.{Branching as branching};
 ghost use Rattle.lts.specs.Meter.{HasRoomFor, Costs, Visits, on_ok};
-ghost use Rattle.lts.specs.Visited.{AreVisited, remaining_of};
+ghost use Rattle.lts.specs.Visited.{AreVisited, HasVisited, remaining_of};
 ghost use Rattle.signatures.specs.Lists.{AreIds};
 ghost use Rattle.partition.specs.Blocks.{IsMember};
 ghost use Rattle.inert.specs.Signed.{IsSignature};
 ghost use Rattle.refine_core.specs.Signatures.{HasNoSignatures, list_of};
-ghost use Rattle.refine_core.specs.Index.{HasVisited};
 ghost use Rattle.refine_core.specs.IndexState.{Awaits, IsReadyToSign, SignsRound};
 
 use crate::signed_blocks::SignedBlocks;

@@ -1,7 +1,7 @@
 use Rattle.std.proofs.Common.{[], ap, refl, subst}
 use Rattle.theory.specs.declared.relation.Relation.TheVariants.{Branching}
 use Rattle.inert.specs.Signed.{IsSignature}
-use Rattle.refine_core.proofs.CallerLemmas.{none_visited}
+use Rattle.lts.proofs.CallerLemmas.{none_visited}
 use Rattle.refine.proofs.Searching.{signed}
 use Rattle.refine.proofs.search.Search.sign.Goals as goal
 

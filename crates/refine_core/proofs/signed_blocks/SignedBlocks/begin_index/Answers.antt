@@ -1,5 +1,5 @@
 use Rattle.std.proofs.Common.{rules, ◌∙◌, ap, refl, inl, inr, arith}
-use Rattle.refine_core.proofs.IndexStates.{none_visited}
+use Rattle.lts.proofs.CallerLemmas.{none_visited}
 use Rattle.refine_core.proofs.signed_blocks.SignedBlocks.begin_index.Goals as goal
 
 pub invariant_of-result : goal.invariant_of-result
