@@ -4,6 +4,7 @@ pub use Rattle.lts.proofs.Contained.{contains_mapped, mapped_contains, contains_
 pub use Rattle.lts.proofs.Filters.{filter-whole, length-filter-sum}
 pub use Rattle.lts.proofs.Joining.{take-split}
 pub use Rattle.lts.proofs.Leaving.{index-fewer, index-leaves}
-pub use Rattle.lts.proofs.Rows.{before-mono, before-next, IsRow-before, before-le}
+pub use Rattle.lts.proofs.Rows.{before-mono, before-next, IsRow-before, before-le, row_of-contains}
+pub use Rattle.lts.proofs.Rows.{step_at, place_step, labels_have_ids, row_steps}
 pub use Rattle.lts.proofs.Visits.{visited_add, visited_few, all_visited, none_visited, visits_left, left_none, row_left}
 pub use Rattle.lts.proofs.Visits.{price_none, price_first, price_split, price_one_more}

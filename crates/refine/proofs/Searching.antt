@@ -11,9 +11,9 @@ use Rattle.std.specs.List.Sorted.{IsStrictlySortedBy}
 use Rattle.std.proofs.Transfers.{starts_with_of_eq, starts_with_trans}
 use borrow.Author.Count.{below_more}
 use Rattle.std.proofs.lemmas.Bool.Decides.{nat_tests}
-use Rattle.std.proofs.lemmas.List.{length-set, length_push, get_or_append_left, get_or_default, take_at, take_all}
+use Rattle.std.proofs.lemmas.List.{length-set, length_push, get_or_append_left, take_at, take_all}
 use Rattle.std.proofs.lemmas.List.Elements.{All-push, All-contains, All-from_get_or, All-from_recursion}
-use Rattle.std.proofs.lemmas.List.Elements.{Contains-push, Contains-push_cases, Contains-append_left, Contains-get_or}
+use Rattle.std.proofs.lemmas.List.Elements.{Contains-push, Contains-push_cases, Contains-append_left}
 use Rattle.std.proofs.lemmas.List.Folds.{list_any_none}
 use Rattle.std.proofs.lemmas.List.Sums.{length-filter, count_by-le-length, get_or-le-sum_by, sum_by-cons}
 use Rattle.std.proofs.lemmas.List.Sums.{sum_by_more_le}
@@ -23,7 +23,7 @@ use Rattle.theory.specs.declared.relation.Relation.TheVariants.{Branching}
 use Rattle.theory.specs.Blocks.{Inert}
 use Rattle.lts.specs.Labels.{text_of}
 use Rattle.lts.specs.Lts.{Triple, source_of, label_of, target_of, row_of, place_at, system_of, IsTriple, IsLts}
-use Rattle.lts.proofs.CallerLemmas.{length-filter-sum}
+use Rattle.lts.proofs.CallerLemmas.{length-filter-sum, step_at, place_step}
 use Rattle.signatures.specs.Lists.{pair_cmp}
 use Rattle.inert.specs.Signed.{HasPair, IsSignature, pair_under}
 use Rattle.inert.specs.Steps.{Under, IsInert, IsStep}
@@ -87,10 +87,6 @@ pub record ReadsRow (u : Under) (s : ℕ) (first : FoundStates) (i start k : ℕ
   pub taken : (j : ℕ) → j < k → start ≤ j → IsExplored u s f (place_at u.l.places j)
 
 module _ (u : Under) (s : ℕ) (lts : IsLts u.l) (laws : Laws)
-    (sources : (s : ℕ) (places : List Triple) (e : Triple) → Contains (row_of s places) e
-    ↔ (Contains places e × (source_of e ≡ s)))
-    (steps : (s : ℕ) (a : List ℕ) (t : ℕ) → Step (system_of u.l) s a t
-    ↔ ((e : Triple) × Contains (row_of s u.l.places) e × (text_of u.l.labels (label_of e) ≡ a) × (target_of e ≡ t)))
     (stays : (A : System) (blocks : ℕ → ℕ) (s t : ℕ) → Leads (Inert A blocks) s t → blocks t ≡ blocks s) where
   abbrev A : System
   A = system_of u.l
@@ -111,8 +107,7 @@ module _ (u : Under) (s : ℕ) (lts : IsLts u.l) (laws : Laws)
     found = was.on.search
 
     its_step : Step A x (text_of u.l.labels (label_of e)) (target_of e)
-    its_step = let in_row = (sources x u.l.places e).1 (Contains-get_or u.l.places k (0, 0, 0) at, from) in
-        (steps x _ (target_of e)).1 (e, in_row, refl, refl)
+    its_step = rw from at (place_step u.l k at)
 
     -- Suppose that the transition e is inert. Then inert transitions lead from s to the target of e.
     leads_on : IsInert u (blocks s) e → LeadsInertly u s (target_of e)
@@ -166,8 +161,10 @@ module _ (u : Under) (s : ℕ) (lts : IsLts u.l) (laws : Laws)
         new ≡ record old { pairs = old.pairs ++ z ∷ [] } → ReadsRow u s first i start (k + 1) new
     collects z new other pair is =
         let after : FoundStates = record old { pairs = old.pairs ++ z ∷ [] } in
-        let keeps : (e' : Triple) → IsExplored u s old e' → IsExplored u s after e' =
-        grind (arith, common_steps, Contains-append_left, old.pairs, u.blocks) in
+        let keeps : (e' : Triple) → IsExplored u s old e' → IsExplored u s after e' = λ e' h. record {
+          followed = h.followed;
+          shown = λ other. Contains-append_left old.pairs (z ∷ []) (pair_under u.blocks e') (h.shown other);
+        } in
         let has : HasPair Branching u.l u.blocks s z.0 z.1 = rw pair
         ((lts.in_range.each k (0, 0, 0) at).label, (x, target_of e, led, its_step, refl, other)) in
         rw is (reads after (starts_with_of_eq _ _ refl) (record {
@@ -204,14 +201,10 @@ module _ (u : Under) (s : ℕ) (lts : IsLts u.l) (laws : Laws)
     explored : (x : ℕ) (a : List ℕ) (y : ℕ) → WasFound f x → Step A x a y → (e : Triple) × (IsExplored u s f e
         × IsTriple (length u.l.labels) u.l.states e) × (text_of u.l.labels (label_of e) ≡ a) × (target_of e ≡ y)
     explored x a y on step =
-        let (e, in_row, label, target) = (steps x a y).0 step in
-        let ((k, at, same), source) = (sources x u.l.places e).0 in_row in
-        let here : place_at u.l.places k ≡ e = get_or_default u.l.places k (0, 0, 0) e at ∙ same in
+        let (k, at, source, label, target) = step_at u.l x a y step in
         let (j, below, is) = search.marked.all x on in
-        let done = search.taken j below k at (ap source_of here ∙ source ∙ sym is) in
-        let both = subst (λ e. IsExplored u s f e × IsTriple (length u.l.labels) u.l.states e) here
-        (done, lts.in_range.each k (0, 0, 0) at) in
-        (e, both, label, target)
+        let done = search.taken j below k at (source ∙ sym is) in
+        (place_at u.l.places k, (done, lts.in_range.each k (0, 0, 0) at), label, target)
 
     all_led : (x : ℕ) → WasFound f x → LeadsInertly u s x
     all_led x on = let one = search.marked.all x on in subst (LeadsInertly u s) one.2 (search.led one.0 one.1)

@@ -37,7 +37,6 @@ pub fn round<S: Sense, M: Meter>(
 {
     let mut signatures = Signatures::new(alloc, l.states())?;
     let mut marks = Marks::new(alloc, l.states())?;
-    lts::rows_are_steps();
     l.invariants();
     m.start_round();
     signatures.fill::<S, M>(l, p, &mut marks, m)?;

@@ -73,7 +73,6 @@ impl Search {
         ensures visits { Visits M.counted m.old m.new result
             (length (row_of s l.now.places)) (length l.now.places) }
     {
-        lts::rows_are_steps();
         theory::inert_steps_stay();
         let lens = Lens::new(l, blocks, None);
         lens.invariants();
@@ -129,7 +128,6 @@ impl Search {
             Visits M.counted m.old m.new result row row }
     {
         lts::rows_follow();
-        lts::rows_are_steps();
         theory::inert_steps_stay();
         lens.invariants();
         let block = lens.blocks()[s as usize];

@@ -98,7 +98,6 @@ impl Sense for Strong {
         out: &mut Vec<(u32, u32)>,
         m: &mut M,
     ) -> Result<(), Memory> {
-        lts::rows_are_steps();
         l.invariants();
         let under = NewBlocks {
             l,

@@ -17,6 +17,7 @@ use Rattle.theory.specs.Unaffected.{HasEmptySignature}
 use Rattle.theory.proofs.CallerLemmas.{empty_before}
 use Rattle.lts.specs.Labels.{text_of, IsLabelId}
 use Rattle.lts.specs.Lts.{Grouped, IsLts, system_of}
+use Rattle.lts.proofs.CallerLemmas.{labels_have_ids}
 use Rattle.signatures.specs.Lists.{AreLists, AreIds, list_at, pair_cmp}
 use Rattle.signatures.proofs.CallerLemmas.{ascending_none, ascending_unique}
 use Rattle.partition.specs.Splitting.{IsSingleton, Splits}
@@ -25,7 +26,7 @@ use Rattle.inert.specs.Signed.{CachesBeside, SignsActive, IsSignature}
 use Rattle.refine_core.specs.Signatures.{Signed, HaveSignatures, list_of, Was, IsAsBefore, Follows, IsListOf}
 use Rattle.refine_core.specs.Signatures.{IsStrongSplitSignature}
 use Rattle.refine_core.specs.IndexState.{IsReadyToSign, SignsRound}
-use Rattle.refine_core.proofs.StrongSignatures.{Labelled, labels_have_ids, unaffected_as_before, as_before_unaffected}
+use Rattle.refine_core.proofs.StrongSignatures.{unaffected_as_before, as_before_unaffected}
 
 -- Suppose that the list `signature_ids` contains a signature ID for each state, and the ID of the empty signature for
 -- each state that is not active (not processed by the round). Suppose that further elements are appended to this list.
@@ -49,13 +50,12 @@ Splits-signatures signatures signature_ids old count new more are each size spli
 abbrev HasLabels : Grouped → (List ℕ → ℕ → Type 0) → Type 0
 HasLabels l has = (a : List ℕ) (b : ℕ) → has a b → (k : ℕ) × IsLabelId l.labels k a
 
--- Suppose that the label of each step is in the label table (`Labelled`). Then the label of each pair in the signature
--- that a state had in the last round is in the label table.
-pub label_id_of : (l : Grouped) → Labelled l → (rel : Relation) (old : Option (List ℕ)) (s : ℕ)
+-- The label of each pair in the signature that a state had in the last round is in the label table.
+pub label_id_of : (l : Grouped) → IsLts l → (rel : Relation) (old : Option (List ℕ)) (s : ℕ)
     → HasLabels l (Was rel l old s)
-label_id_of l labelled rel None s a b h = absurd h
-label_id_of l labelled Strong (Some old) s a b h = labelled s a h.0 h.1
-label_id_of l labelled Branching (Some old) s a b h = labelled h.0 a h.1 h.3
+label_id_of l lts rel None s a b h = absurd h
+label_id_of l lts Strong (Some old) s a b h = labels_have_ids l s a h.0 lts h.1
+label_id_of l lts Branching (Some old) s a b h = labels_have_ids l h.0 a h.1 lts h.3
 
 carried_over : (l : Grouped) (P Q : List ℕ → ℕ → Type 0) (xs : List (ℕ × ℕ)) → HasLabels l P → IsListOf l P xs
     → IsListOf l Q xs → (a : List ℕ) (b : ℕ) → P a b → Q a b
@@ -74,15 +74,14 @@ equal_represented l P Q xs ys in_p in_q of_p of_q = (
       grind (arith, of_p.1 z.0 z.1, of_q.1 z.0 z.1, is)),
 )
 
--- Suppose that the label of each step is in the label table (`Labelled`). Suppose that the list xs stores the signature
--- of the state s, and that the list ys stores the signature of the state t (`IsSignature`). Then xs and ys are equal if
--- and only if the signatures of s and t are equal.
-pub equal_lists : (rel : Relation) (l : Grouped) (labelled : Labelled l) (blocks : List ℕ) (s t : ℕ)
+-- Suppose that the list xs stores the signature of the state s, and that the list ys stores the signature of the state t
+-- (`IsSignature`). Then xs and ys are equal if and only if the signatures of s and t are equal.
+pub equal_lists : (rel : Relation) (l : Grouped) (lts : IsLts l) (blocks : List ℕ) (s t : ℕ)
     (xs ys : List (ℕ × ℕ)) → IsSignature rel l blocks s xs → IsSignature rel l blocks t ys
     → (xs ≡ ys) ↔ SameSignature rel (system_of l) (slice_index blocks) s t
-equal_lists rel l labelled blocks s t xs ys of_s of_t =
-    equal_represented l _ _ xs ys (label_id_of l labelled rel (Some blocks) s)
-    (label_id_of l labelled rel (Some blocks) t) (of_s.ascending, of_s.exactly) (of_t.ascending, of_t.exactly)
+equal_lists rel l lts blocks s t xs ys of_s of_t =
+    equal_represented l _ _ xs ys (label_id_of l lts rel (Some blocks) s) (label_id_of l lts rel (Some blocks) t)
+    (of_s.ascending, of_s.exactly) (of_t.ascending, of_t.exactly)
 
 -- Suppose that the blocks result from splitting the blocks of the last round (`Follows`), and that two states share a
 -- block. Then the two states had equal signatures in the last round. If the block IDs of the last round are not known
@@ -149,8 +148,7 @@ module _ (rel : Relation) (l : Grouped) (lts : IsLts l) (r : Signed) (ready : Is
   told s t ls lt one (inr (inl p)) (inr (inr q)) = grind (arith, p.0, q.0, differ s t ls lt one p.1 q.1)
   told s t ls lt one (inr (inr p)) (inr (inl q)) =
       (λ h. absurd (p.0 (h ∙ q.0)), λ h. absurd (differ t s lt ls (sym one) q.1 p.1 (λ a b. ((h a b).1, (h a b).0))))
-  told s t ls lt one (inr (inr p)) (inr (inr q)) =
-      equal_lists rel l (labels_have_ids l lts) blocks s t _ _ p.2 q.2
+  told s t ls lt one (inr (inr p)) (inr (inr q)) = equal_lists rel l lts blocks s t _ _ p.2 q.2
 
   each : (s : ℕ) → s < l.states → Each s
   each s h = grind (arith, ready.others s h, have.none s, given s h, have.states, ready.is.states, first)
@@ -252,16 +250,13 @@ module _ (l : Grouped) (r : Signed) (ready : IsReadyToSign Branching l r) where
     -- before the signatures were computed, the cached ID of s was the ID of the signature that s had in the last round.
     module _ (lts : IsLts l) (s : ℕ) (h : s < l.states) (one : IsMember active s)
         (was : IsListOf l (Was Branching l ready.old s) (list_of r.signatures r.cached s)) where
-      labelled : Labelled l
-      labelled = labels_have_ids l lts
-
       -- Let s be an active state, which is a state that the round processes. Suppose that the round has computed the
       -- signature of s, and has stored the ID of this signature in the cache. Then the cached ID of s is the same as
       -- before if and only if the signature of s has not changed since the last round.
       unchanged : (slice_index r.cached s ≡ slice_index cached s) ↔ IsAsBefore Branching l ready.old of s
       unchanged =
           let told = equal_represented l _ _ (list_of signatures cached s) (list_of r.signatures r.cached s)
-          (label_id_of l labelled Branching (Some of) s) (label_id_of l labelled Branching ready.old s)
+          (label_id_of l lts Branching (Some of) s) (label_id_of l lts Branching ready.old s)
           ((signs.signed s one).ascending, (signs.signed s one).exactly) was in
           let apart = are.different (slice_index r.cached s) (slice_index cached s) in
           grind (arith, told, same_list s h, apart, within s h, signs.grow.longer, signs.each s 0, signs.states)
@@ -271,7 +266,7 @@ module _ (l : Grouped) (r : Signed) (ready : IsReadyToSign Branching l r) where
       empty_still : list_of signatures cached s ≡ [] → IsAsBefore Branching l ready.old of s
       empty_still nil a b =
           let shows : HasEmptySignature (system_of l) (slice_index of) s = λ a b can.
-          let (k, number) = label_id_of l labelled Branching (Some of) s a b can in
+          let (k, number) = label_id_of l lts Branching (Some of) s a b can in
           let c = ((signs.signed s one).exactly k b).1 (number.below, rw number.text can) in
           omega (arith, (rw nil at c).1) in (
             λ can. absurd (shows a b can),

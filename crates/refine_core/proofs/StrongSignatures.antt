@@ -1,47 +1,23 @@
--- Lemmas about steps, and about strong signatures. The row of a state is the list of its outgoing transitions. The pair
+-- Lemmas about strong signatures. The row of a state is the list of its outgoing transitions. The pair
 -- of a transition consists of its label ID and the block ID of its target. For strong bisimilarity, the signature of a
 -- state is the list of the pairs of its transitions, in ascending order and without duplicates.
 use Rattle.std.proofs.Common.{rules, ◌≡◌, ◌↔◌, ℕ, ◌+◌, ◌<◌, List, [], length, slice_index, set, Contains, arith, ◌-◌}
 use Rattle.std.proofs.Common.{◌≤◌, take, map, sym, refl, ap, inl, inr, ◌∙◌, Option, None, Some}
 use Rattle.std.proofs.lemmas.Grind.{common_steps}
-use Rattle.std.proofs.lemmas.List.{get_or-map, get_or-set_other, length-map, length-set}
+use Rattle.std.proofs.lemmas.List.{get_or-set_other, length-set}
 use Rattle.std.proofs.lemmas.List.Elements.{All-contains}
 use Rattle.std.specs.List.Sorted.{IsStrictlySortedBy}
 use Rattle.theory.specs.System.{System, Step, IsSystem}
 use Rattle.theory.specs.declared.relation.Relation.TheVariants.{Strong}
 use Rattle.theory.proofs.CallerLemmas.{step_below}
-use Rattle.lts.specs.Labels.{text_of, IsLabelId}
-use Rattle.lts.specs.Lts.{Grouped, Triple, source_of, label_of, target_of, place_at, before, row_of, system_of}
-use Rattle.lts.specs.Lts.{IsTriple, IsLts}
+use Rattle.lts.specs.Labels.{text_of}
+use Rattle.lts.specs.Lts.{Grouped, Triple, target_of, before, row_of, system_of, IsTriple, IsLts}
 use Rattle.lts.specs.Visited.{remaining_of}
-use Rattle.lts.proofs.CallerLemmas.{contains_mapped, mapped_contains, left_none}
+use Rattle.lts.proofs.CallerLemmas.{contains_mapped, mapped_contains, left_none, row_of-contains, row_steps}
 use Rattle.signatures.specs.Lists.{list_at, Grow, pair_cmp}
 use Rattle.partition.specs.Blocks.{AreActive, InactiveHaveNone}
 use Rattle.inert.specs.Signed.{HasPair, IsSignature, pair_under}
 use Rattle.refine_core.specs.Signatures.{list_of, HasNewBlock, IsAsBefore, IsStrongSplitSignature, Follows}
-
--- `StepAt` holds if the list of all transitions contains a transition from the state s to the state t with the label a.
--- The field `place` is the index of this transition in the list.
-pub record StepAt (l : Grouped) (s : ℕ) (a : List ℕ) (t : ℕ) : Type 0 where
-  pub place : ℕ
-  pub below : place < length l.places
-  pub source : source_of (place_at l.places place) ≡ s
-  pub label : text_of l.labels (label_of (place_at l.places place)) ≡ a
-  pub target : target_of (place_at l.places place) ≡ t
-
-pub step_at : (l : Grouped) (s : ℕ) (a : List ℕ) (t : ℕ) → Step (system_of l) s a t → StepAt l s a t
-step_at l s a t step = grind (arith, common_steps, length-map, get_or-map)
-
--- `Labelled` holds if the label of each step of the system is in the label table.
-abbrev pub Labelled : Grouped → Type 0
-Labelled l = (s : ℕ) (a : List ℕ) (t : ℕ) → Step (system_of l) s a t → (k : ℕ) × IsLabelId l.labels k a
-
--- Each step of the system comes from a stored transition, and the label ID of this transition is in the label table.
-pub labels_have_ids : (l : Grouped) → IsLts l → Labelled l
-labels_have_ids l lts s a t step = let k = step_at l s a t step in (
-  label_of (place_at l.places k.place),
-  record { below = (lts.in_range.each k.place (0, 0, 0) k.below).label; text = k.label },
-)
 
 -- `IsUnaffected` holds if each transition of the state s leads to an old block. A block is old if its ID is less than
 -- `first_new`. The last split has made all other blocks.
@@ -70,12 +46,8 @@ as_before_unaffected l sys (Some old) of low follows s same a t step =
     let (u, was, is) = (same a (slice_index of t)).0 (t, step, refl) in
     omega (arith, follows.below u (step_below (system_of l) sys s a u was).1, is)
 
--- The following lemmas are about the row of the state s, which is the list of the stored transitions from s. The
--- arguments `sources` and `steps` are the laws that the contract of `lts::rows_are_steps` states for s.
-module _ (l : Grouped) (blocks : List ℕ) (s : ℕ) (h : IsLts l)
-    (sources : (e : Triple) → Contains (row_of s l.places) e ↔ (Contains l.places e × (source_of e ≡ s)))
-    (steps : (a : List ℕ) (t : ℕ) → Step (system_of l) s a t ↔ ((e : Triple) × Contains (row_of s l.places) e
-    × (text_of l.labels (label_of e) ≡ a) × (target_of e ≡ t))) where
+-- The following lemmas are about the row of the state s, which is the list of the stored transitions from s.
+module _ (l : Grouped) (blocks : List ℕ) (s : ℕ) (h : IsLts l) where
   -- `pairs` is the list of the pairs (label ID, block ID of the target) of the transitions of the state s, in the order
   -- of these transitions.
   abbrev pairs : List (ℕ × ℕ)
@@ -85,7 +57,7 @@ module _ (l : Grouped) (blocks : List ℕ) (s : ℕ) (h : IsLts l)
   -- strong signature of the state s. Then this pair is the pair of some transition of s.
   pair_has : (k b : ℕ) → HasPair Strong l blocks s k b → Contains pairs (k, b)
   pair_has k b has =
-      let found = (steps (text_of l.labels k) has.1.0).0 has.1.1 in
+      let found = (row_steps l s (text_of l.labels k) has.1.0).0 has.1.1 in
       grind (arith, common_steps, h.table.different, contains_mapped)
 
   -- The pair of a transition consists of its label ID and the block ID of its target. Suppose that a pair is the pair
@@ -93,8 +65,9 @@ module _ (l : Grouped) (blocks : List ℕ) (s : ℕ) (h : IsLts l)
   has : (z : ℕ × ℕ) → Contains pairs z → HasPair Strong l blocks s z.0 z.1
   has z c =
       let (e, at, is) = mapped_contains (pair_under blocks) (row_of s l.places) z c in
-      let triple = All-contains (IsTriple (length l.labels) l.states) l.places e h.in_range.each ((sources e).0 at).0 in
-      rw (sym is) (triple.label, (target_of e, (steps _ (target_of e)).1 (e, at, refl, refl), refl))
+      let listed = ((row_of-contains s l.places e).0 at).0 in
+      let triple = All-contains (IsTriple (length l.labels) l.states) l.places e h.in_range.each listed in
+      rw (sym is) (triple.label, (target_of e, (row_steps l s _ (target_of e)).1 (e, at, refl, refl), refl))
 
   -- In the following lemmas, the list zs contains exactly the pairs (label ID, block ID of the target) of the
   -- transitions of the state s, in strictly ascending order.
@@ -123,7 +96,7 @@ module _ (l : Grouped) (blocks : List ℕ) (s : ℕ) (h : IsLts l)
   row_unaffected first_new none = inl (
     refl,
     λ a t step.
-        let (e, in_row, _, target) = (steps a t).0 step in
+        let (e, in_row, _, target) = (row_steps l s a t).0 step in
         let c = contains_mapped (pair_under blocks) (row_of s l.places) e in_row in
         let apart : ¬ (first_new ≤ slice_index blocks (target_of e)) = λ h. none (pair_under blocks e, c, h) in
         omega (arith, apart, ap (slice_index blocks) target),

@@ -119,7 +119,6 @@ fn intern_signature<M: Meter>(
     ensures visits { let n = length (row_of s (remaining_of visited.now under.now.l.now.places)) in
         Visits M.counted m.old m.new result n n }
 {
-    lts::rows_are_steps();
     under.l.invariants();
     signatures.invariants();
     if !read_unvisited(under, visited, s, pairs, m)? {

@@ -9,7 +9,7 @@ use Rattle.theory.specs.declared.relation.Relation.TheVariants.{Branching}
 use Rattle.theory.specs.Blocks.{Inert}
 use Rattle.lts.specs.Lts.{Triple, source_of, target_of, place_at, system_of, IsLts}
 use Rattle.lts.specs.Visited.{price, price_between}
-use Rattle.lts.proofs.CallerLemmas.{price_none, price_one_more}
+use Rattle.lts.proofs.CallerLemmas.{place_step, price_none, price_one_more}
 use Rattle.inert.specs.Signed.{HasPair, pair_under}
 use Rattle.inert.specs.Steps.{Under, IsInert, IsStep}
 use Rattle.inert.specs.Search.{Search, Laws, frame_at, top, IsFrame, IsFollowed, IsHandled, SearchInvariant, OnStack}
@@ -21,7 +21,6 @@ use Rattle.inert.specs.declared.lens.Step.TheVariants.{Inert as Goes, Shows}
 use Rattle.inert.proofs.invariant.Keeping.{stays_on, goes_on}
 use Rattle.inert.proofs.parts.Counting.{unseen-set, rest-next, rest-most}
 use Rattle.inert.proofs.invariant.Standing.{pair_before, list_signed}
-use Rattle.inert.proofs.signatures.Exact.{place_step}
 use Rattle.inert.proofs.moves.Forward.{SearchInvariant-collect, collected_holds, SearchInvariant-join, joined_here}
 use Rattle.inert.proofs.moves.Forward.{entered_on, entered_met, SearchInvariant-next}
 

@@ -6,12 +6,13 @@
 use Rattle.std.proofs.Common.{rules, ◌≡◌, ℕ, ◌+◌, ◌-◌, ◌<◌, ◌≤◌, List, [], ◌∷◌, length, drop, get_or, slice_index, sym}
 use Rattle.std.proofs.Common.{◌∙◌, subst, inl, inr, arith, Contains}
 use Rattle.std.proofs.lemmas.Grind.{common_steps}
-use Rattle.std.proofs.lemmas.List.{length-map, get_or-map, get_or-drop, get_or_default, length-drop}
+use Rattle.std.proofs.lemmas.List.{get_or-drop, get_or_default, length-drop}
 use Rattle.theory.specs.System.{Step, Along, internal}
 use Rattle.theory.specs.declared.relation.Relation.TheVariants.{Branching}
 use Rattle.theory.specs.Blocks.{Inert}
 use Rattle.lts.specs.Labels.{text_of}
-use Rattle.lts.specs.Lts.{Grouped, source_of, label_of, target_of, place_at, transition_of, system_of, IsLts}
+use Rattle.lts.specs.Lts.{source_of, label_of, place_at, system_of, IsLts}
+use Rattle.lts.proofs.CallerLemmas.{step_at}
 use Rattle.inert.specs.Steps.{Under}
 use Rattle.inert.specs.Signed.{HasPair, pair_under}
 use Rattle.inert.specs.Search.{Search, Laws, item_at, GivesPair, ComponentHasPair, IsHandled, IsSigned, SearchInvariant}
@@ -19,22 +20,6 @@ use Rattle.inert.specs.Search.{Item}
 use Rattle.inert.proofs.parts.Tops.{here, last, no_root}
 use Rattle.inert.specs.SearchMoves.{IsUnionOfItems, HasRead}
 use Rattle.inert.proofs.invariant.Standing.{pair_before, list_signed, last_low, last_most, last_frame, none_ahead}
-
--- A place is an index in the list of all transitions. For each step of the system, there is a place at which the
--- transition has the same source, label and target as the step.
-pub step_place : (l : Grouped) (s t : ℕ) (a : List ℕ) → Step (system_of l) s a t →
-    (k : ℕ) × (k < length l.places) × (source_of (place_at l.places k) ≡ s)
-    × (text_of l.labels (label_of (place_at l.places k)) ≡ a) × (target_of (place_at l.places k) ≡ t)
-step_place l s t a step = grind (arith, common_steps, length-map, get_or-map)
-
--- Let the place k be an index in the list of all transitions. Then the transition at the place k is a step of the
--- system.
-pub place_step : (l : Grouped) (k : ℕ) → k < length l.places →
-    Step (system_of l) (source_of (place_at l.places k)) (text_of l.labels (label_of (place_at l.places k)))
-    (target_of (place_at l.places k))
-place_step l k h =
-    let f = transition_of l.labels in
-    (k, omega (arith, h, length-map l.places f), get_or-map f l.places k (0, 0, 0) (f (place_at l.places k)) h)
 
 module _ (laws : Laws) {u : Under} (lts : IsLts u.l) {signatures : List (List (ℕ × ℕ))} {w : Search}
     (walks : SearchInvariant u signatures w)
@@ -77,12 +62,12 @@ module _ (laws : Laws) {u : Under} (lts : IsLts u.l) {signatures : List (List (�
       → ¬ ((text_of u.l.labels z.0 ≡ internal) × (z.1 ≡ slice_index u.blocks (slice_index w.stack p)))
       → z.0 < length u.l.labels → Collected z
   collects z [] p h lp v t e step is other low =
-      let (k, lk, source, label, target) = step_place u.l v t (text_of u.l.labels z.0) step in
+      let (k, lk, source, label, target) = step_at u.l v (text_of u.l.labels z.0) t step in
       let id : label_of (place_at u.l.places k) ≡ z.0 = search rules in
       let same : pair_under u.blocks (place_at u.l.places k) ≡ z = grind (arith, id, target, is) in
       collected_from p h z (rw same at ((done p k h lp lk (source ∙ sym e)).shown (λ inert. other (cc, cc))))
   collects z (x ∷ us) p h lp v t (first, rest) step is other low =
-      let (k, lk, source, label, target) = step_place u.l (slice_index w.stack p) x internal first.0 in
+      let (k, lk, source, label, target) = step_at u.l (slice_index w.stack p) internal x first.0 in
       let inside : slice_index w.stack p < u.l.states = search rules in
       elim (rw target at ((done p k h lp lk source).followed (label, cc))) [
         | inl (q, stage, up, down) ↦

@@ -1,6 +1,6 @@
 use Rattle.std.proofs.Common.{◌∙◌, arith, rules}
 use Rattle.std.proofs.lemmas.Result.{IfOk-weaker}
-use Rattle.refine_core.proofs.CallerLemmas.{Labelled, equal_lists}
+use Rattle.refine_core.proofs.CallerLemmas.{equal_lists}
 use Rattle.refine.proofs.Spending.{begun_up_to, on_ok_from, on_err_from}
 use Rattle.refine.proofs.one_round.round.Goals as goal
 
@@ -16,8 +16,7 @@ returns-clause-split g c =
     let l = c.args.l.now in
     let signed = c.in_ok-fill.ensures.signed in
     IfOk-weaker c.split.result _ _ (λ q parted s t ls lt.
-    let labelled : Labelled l = λ s a t. c.rows_are_steps.ensures.numbered l s a t c.invariants.ensures in
-    let same = equal_lists g.S.Signing.relation l labelled c.args.p.now s t _ _ (signed s ls) (signed t lt) in
+    let same = equal_lists g.S.Signing.relation l c.invariants.ensures c.args.p.now s t _ _ (signed s ls) (signed t lt) in
     let both = parted s t (omega (arith, ls, c.requires.states)) (omega (arith, lt, c.requires.states)) in (
       λ e. let h = both.0 e in (h.0, same.0 h.1),
       λ h. both.1 (h.0, same.1 h.1),

@@ -32,9 +32,8 @@ loop-k-preserved g c =
     let from = (its.exactly k at).1 (omega (arith, c.loop-k.auto.k), c.loop-k-test.true) in
     let step = rw c.blocks-2.ensures at c.step-step.ensures.step in
     record {
-      row = went u c.args.s c.invariants.ensures.lts c.invariants.ensures.laws c.rows_are_steps.ensures.sources
-          (c.rows_are_steps.ensures.steps u.l) c.inert_steps_stay.ensures.block c.loop-k.invariant.row
-          (c.requires.found.led c.args.i c.requires.more) at from _ _ step c.in_ok-explore.ensures.takes;
+      row = went u c.args.s c.invariants.ensures.lts c.invariants.ensures.laws c.inert_steps_stay.ensures.block
+          c.loop-k.invariant.row (c.requires.found.led c.args.i c.requires.more) at from _ _ step c.in_ok-explore.ensures.takes;
       cost = search (rules, ap (λ x. price x k) c.requires.visited);
     }
 

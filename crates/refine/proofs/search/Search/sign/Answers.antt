@@ -10,9 +10,8 @@ returns-clause-signature g c =
     let u = c.new-lens.result in
     let zs = c.order.new.pairs.items in
     subst (λ u. IsSignature Branching u.l u.blocks c.args.s zs) c.new-lens.ensures
-    (signed u c.args.s c.invariants.ensures.lts c.invariants.ensures.laws c.rows_are_steps.ensures.sources
-    (c.rows_are_steps.ensures.steps u.l) c.inert_steps_stay.ensures.block c.inert_steps_stay.ensures.kept
-    c.find-found.new.self c.in_ok-found.ensures.found zs c.order.ensures.ascending
+    (signed u c.args.s c.invariants.ensures.lts c.invariants.ensures.laws c.inert_steps_stay.ensures.block
+    c.inert_steps_stay.ensures.kept c.find-found.new.self c.in_ok-found.ensures.found zs c.order.ensures.ascending
     (rw (ap (λ f. f.pairs) c.self.view_is) at c.order.ensures.same))
 
 pub new-lens-requires : goal.new-lens-requires

@@ -12,6 +12,5 @@ pub returns-clause-appends : goal.returns-clause-appends
 returns-clause-appends g c =
     let l = c.args.l.now in
     let signature = row_signature l c.blocks-2.result.now c.args.s c.invariants.ensures
-    (c.rows_are_steps.ensures.sources c.args.s l.places) (c.rows_are_steps.ensures.steps l c.args.s)
     c.order.new.pairs.items c.order.ensures.ascending (rw c.in_ok-read.ensures.pairs at c.order.ensures.same) in
     rw (← c.blocks-2.ensures.blocks) (_, signature, search rules)
