@@ -16,12 +16,18 @@ abbrev pub HasPair : Relation → Grouped → List ℕ → ℕ → ℕ → ℕ �
 HasPair rel l blocks s k b =
     (k < length l.labels) × Signature rel (system_of l) (slice_index blocks) s (text_of l.labels k) b
 
--- `IsSignature` holds if both of the following conditions hold. First, the list `pairs` contains exactly the pairs
--- (label ID, block) of the signature of the state s. Second, the pairs are in ascending order, and each pair occurs
--- only once.
-pub record IsSignature (rel : Relation) (l : Grouped) (blocks : List ℕ) (s : ℕ) (pairs : List (ℕ × ℕ)) : Type 0 where
-  pub exactly : (k b : ℕ) → Contains pairs (k, b) ↔ HasPair rel l blocks s k b
+-- The predicate `has` describes a set: the set contains the pair of a label a and a block b if and only if `has a b`
+-- holds. `IsListOf` holds if the list `pairs` stores this set. Both of the following conditions must hold. First,
+-- `pairs` contains the pair of a number k and a block b if and only if k is the ID of a label a for which `has a b`
+-- holds. Second, the pairs are in ascending order, and each pair occurs only once.
+pub record IsListOf (l : Grouped) (has : List ℕ → ℕ → Type 0) (pairs : List (ℕ × ℕ)) : Type 0 where
+  pub exactly : (k b : ℕ) → Contains pairs (k, b) ↔ ((k < length l.labels) × has (text_of l.labels k) b)
   pub ascending : IsStrictlySortedBy pair_cmp pairs
+
+-- `IsSignature` holds if a list stores the signature of the state s: the list contains exactly the pairs (label ID,
+-- block) of this signature in ascending order, and each pair only once (`IsListOf`).
+abbrev pub IsSignature : Relation → Grouped → List ℕ → ℕ → List (ℕ × ℕ) → Type 0
+IsSignature rel l blocks s = IsListOf l (Signature rel (system_of l) (slice_index blocks) s)
 
 -- Returns the pair of the transition e: the ID of its label and the block of its target.
 abbrev pub pair_under : List ℕ → Triple → ℕ × ℕ

@@ -22,8 +22,8 @@ use Rattle.signatures.specs.Lists.{AreLists, AreIds, list_at, pair_cmp}
 use Rattle.signatures.proofs.CallerLemmas.{ascending_none, ascending_unique}
 use Rattle.partition.specs.Splitting.{IsSingleton, Splits}
 use Rattle.partition.specs.Blocks.{IsMember, InactiveHaveNone}
-use Rattle.inert.specs.Signed.{CachesBeside, SignsActive, IsSignature}
-use Rattle.refine_core.specs.Signatures.{Signed, HaveSignatures, list_of, Was, IsAsBefore, Follows, IsListOf}
+use Rattle.inert.specs.Signed.{CachesBeside, SignsActive, IsListOf, IsSignature}
+use Rattle.refine_core.specs.Signatures.{Signed, HaveSignatures, list_of, Was, IsAsBefore, Follows}
 use Rattle.refine_core.specs.Signatures.{IsStrongSplitSignature}
 use Rattle.refine_core.specs.IndexState.{IsReadyToSign, SignsRound}
 use Rattle.refine_core.proofs.StrongSignatures.{unaffected_as_before, as_before_unaffected}
@@ -60,7 +60,7 @@ label_id_of l lts Branching (Some old) s a b h = labels_have_ids l h.0 a h.1 lts
 carried_over : (l : Grouped) (P Q : List ℕ → ℕ → Type 0) (xs : List (ℕ × ℕ)) → HasLabels l P → IsListOf l P xs
     → IsListOf l Q xs → (a : List ℕ) (b : ℕ) → P a b → Q a b
 carried_over l P Q xs labelled of_p of_q a b h = let (k, number) = labelled a b h in
-    rw number.text at ((of_q.1 k b).0 ((of_p.1 k b).1 (number.below, rw number.text h))).1
+    rw number.text at ((of_q.exactly k b).0 ((of_p.exactly k b).1 (number.below, rw number.text h))).1
 
 -- The predicates P and Q describe two sets of pairs (label, block). Suppose that the list xs stores the set that P
 -- describes, and that the list ys stores the set that Q describes (`IsListOf`). Suppose also that all labels in both
@@ -70,8 +70,8 @@ pub equal_represented : (l : Grouped) (P Q : List ℕ → ℕ → Type 0) (xs ys
 equal_represented l P Q xs ys in_p in_q of_p of_q = (
   λ e a b. let is = subst (IsListOf l Q) (sym e) of_q in
       (carried_over l P Q xs in_p of_p is a b, carried_over l Q P xs in_q is of_p a b),
-  λ same. ascending_unique xs ys of_p.0 of_q.0 (λ z. let is = same (text_of l.labels z.0) z.1 in
-      grind (arith, of_p.1 z.0 z.1, of_q.1 z.0 z.1, is)),
+  λ same. ascending_unique xs ys of_p.ascending of_q.ascending (λ z. let is = same (text_of l.labels z.0) z.1 in
+      grind (arith, of_p.exactly z.0 z.1, of_q.exactly z.0 z.1, is)),
 )
 
 -- Suppose that the list xs stores the signature of the state s, and that the list ys stores the signature of the state t
@@ -79,9 +79,8 @@ equal_represented l P Q xs ys in_p in_q of_p of_q = (
 pub equal_lists : (rel : Relation) (l : Grouped) (lts : IsLts l) (blocks : List ℕ) (s t : ℕ)
     (xs ys : List (ℕ × ℕ)) → IsSignature rel l blocks s xs → IsSignature rel l blocks t ys
     → (xs ≡ ys) ↔ SameSignature rel (system_of l) (slice_index blocks) s t
-equal_lists rel l lts blocks s t xs ys of_s of_t =
+equal_lists rel l lts blocks s t xs ys =
     equal_represented l _ _ xs ys (label_id_of l lts rel (Some blocks) s) (label_id_of l lts rel (Some blocks) t)
-    (of_s.ascending, of_s.exactly) (of_t.ascending, of_t.exactly)
 
 -- Suppose that the blocks result from splitting the blocks of the last round (`Follows`), and that two states share a
 -- block. Then the two states had equal signatures in the last round. If the block IDs of the last round are not known
@@ -214,10 +213,10 @@ module _ (l : Grouped) (r : Signed) (ready : IsReadyToSign Branching l r) where
     | inr (inl alone) ↦ inr (inl alone)
     | inr (inr same) ↦ inr (⊎_map (λ alone. alone) (λ list. record {
       exactly = λ k b. (
-        λ c. let has = (list.1 k b).0 c in (has.0, (same (text_of l.labels k) b).1 has.1),
-        λ has. (list.1 k b).1 (has.0, (same (text_of l.labels k) b).0 has.1),
+        λ c. let has = (list.exactly k b).0 c in (has.0, (same (text_of l.labels k) b).1 has.1),
+        λ has. (list.exactly k b).1 (has.0, (same (text_of l.labels k) b).0 has.1),
       );
-      ascending = list.0;
+      ascending = list.ascending;
     }) ((ready.cached refl).each s h))
   ]
 
@@ -256,8 +255,8 @@ module _ (l : Grouped) (r : Signed) (ready : IsReadyToSign Branching l r) where
       unchanged : (slice_index r.cached s ≡ slice_index cached s) ↔ IsAsBefore Branching l ready.old of s
       unchanged =
           let told = equal_represented l _ _ (list_of signatures cached s) (list_of r.signatures r.cached s)
-          (label_id_of l lts Branching (Some of) s) (label_id_of l lts Branching ready.old s)
-          ((signs.signed s one).ascending, (signs.signed s one).exactly) was in
+          (label_id_of l lts Branching (Some of) s) (label_id_of l lts Branching ready.old s) (signs.signed s one)
+          was in
           let apart = are.different (slice_index r.cached s) (slice_index cached s) in
           grind (arith, told, same_list s h, apart, within s h, signs.grow.longer, signs.each s 0, signs.states)
 
@@ -306,7 +305,7 @@ module _ (l : Grouped) (r : Signed) (ready : IsReadyToSign Branching l r) where
       cached = λ branching. record {
         states = signs.states;
         signature_ids = signs.each;
-        each = λ s h. ⊎_map (λ alone. alone) (λ is. (is.ascending, is.exactly)) (cached_now s h);
+        each = cached_now;
       };
       first = λ _ empty s one. grind (arith, common_steps, signs.changed s one, signs.signed s one, empty refl s);
     }

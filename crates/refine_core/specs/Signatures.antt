@@ -6,19 +6,17 @@
 -- round. This file also defines what the cache must contain.
 use Rattle.std.specs.Prelude.{◌≡◌, ◌⊎◌, ◌↔◌, ℕ, ◌<◌, ◌≤◌, List, [], ◌∷◌, length, slice_index, Option, None, Some}
 use Rattle.std.specs.List.{Contains}
-use Rattle.std.specs.List.Sorted.{IsStrictlySortedBy}
 use Rattle.theory.specs.declared.relation.Relation.{Relation}
 use Rattle.theory.specs.declared.relation.Relation.TheVariants.{Strong, Branching}
 use Rattle.theory.specs.System.{Step}
 use Rattle.theory.specs.Blocks.{Signature, Split}
 use Rattle.theory.specs.Unaffected.{KeepsBlockIds}
-use Rattle.lts.specs.Labels.{text_of}
 use Rattle.lts.specs.Lts.{Grouped, system_of}
 use Rattle.lts.specs.Incoming.{Entries}
-use Rattle.signatures.specs.Lists.{pair_cmp, list_at, AreIds}
+use Rattle.signatures.specs.Lists.{list_at, AreIds}
 use Rattle.partition.specs.Splitting.{IsSingleton}
 use Rattle.partition.specs.Blocks.{RoundBlocks, InactiveHaveNone}
-use Rattle.inert.specs.Signed.{IsSignature}
+use Rattle.inert.specs.Signed.{IsListOf, IsSignature}
 
 -- Returns the signature of the state s. The list `signature_ids` contains the ID of this signature at the index s, and
 -- the list `signatures` contains the signatures in the order of their IDs.
@@ -99,14 +97,6 @@ abbrev pub IsStrongSplitSignature : Grouped → List ℕ → ℕ → ℕ → Lis
 IsStrongSplitSignature l of first_new s list =
     let unaffected = (a : List ℕ) (t : ℕ) → Step (system_of l) s a t → slice_index of t < first_new in
     ((list ≡ []) × unaffected) ⊎ (¬ (list ≡ []) × ¬ unaffected × IsSignature Strong l of s list)
-
--- `IsListOf` holds if `list` stores the set of pairs that the predicate `has` describes. This set contains the pair of
--- a label a and a block b if and only if `has a b` holds. Both of the following conditions must hold. First, the pairs
--- of `list` are in strictly ascending order. Second, `list` contains the pair of a number k and a block b if and only
--- if k is the ID of a label a for which `has a b` holds.
-abbrev pub IsListOf : Grouped → (List ℕ → ℕ → Type 0) → List (ℕ × ℕ) → Type 0
-IsListOf l has list = IsStrictlySortedBy pair_cmp list
-    × ((k b : ℕ) → Contains list (k, b) ↔ ((k < length l.labels) × has (text_of l.labels k) b))
 
 -- `CachesIds` holds if both of the following conditions hold. First, the list `cached` contains the ID of an interned
 -- signature for each state. Second, if a state is not in a singleton block (a block with one state), `cached` contains
