@@ -2,13 +2,14 @@
 -- target) of both systems to one list, with one label table for both systems.
 use Rattle.std.proofs.Common.{rules, ◌≡◌, ◌∙◌, ℕ, suc, ◌+◌, ◌-◌, ◌<◌, ◌≤◌, List, [], ◌∷◌, ◌++◌, length, map, take, drop}
 use Rattle.std.proofs.Common.{Contains, sym, ap, subst, refl, inl, inr, arith}
+use Rattle.std.proofs.Math.Nat.{zero-add}
 use Rattle.std.proofs.lemmas.Grind.{common_steps}
 use Rattle.std.specs.List.{All}
 use Rattle.std.specs.List.Sorted.{IsNonDecreasingBy}
 use Rattle.std.proofs.lemmas.Bool.{cases_lt}
 use Rattle.std.proofs.lemmas.List.{length_push, append_assoc, map-append, map_push, take_more, get_or_push, places}
 use Rattle.std.proofs.lemmas.List.{same_lists}
-use Rattle.std.proofs.lemmas.List.{length-append, length-map}
+use Rattle.std.proofs.lemmas.List.{length-append, length-map, map-id}
 use Rattle.std.proofs.lemmas.List.Elements.{All-map, Contains-push, Contains-append_left}
 use Rattle.theory.specs.System.{Transition}
 use Rattle.theory.specs.Union.{shifted, union_of}
@@ -16,23 +17,28 @@ use Rattle.lts.specs.Labels.{text_of, IsLabelId, IsTable, KeepsLabels, Interns}
 use Rattle.lts.specs.Lts.{Triple, source_of, label_of, target_of, place_at, transition_of, system_of, grouped, IsTriple}
 use Rattle.lts.specs.Lts.{IsLts}
 use Rattle.lts.specs.Lts.{IsUsedLabel, Grouped, IsBuilt}
+use Rattle.lts.specs.Meter.{Counts, Costs}
 use Rattle.lts.specs.Union.{IsJoined, AddsShifted}
 use Rattle.lts.proofs.Grouped.{ascending-append, ascending-map, ascending-from_map, grouped-same}
 
 -- Suppose that each label of the old label table has the same ID in the new label table. Then the triples (source,
 -- label ID, target) represent the same transitions with the new table as with the old table.
-transitions-kept : (old new : List (List ℕ)) (states : ℕ) (es : List Triple) → KeepsLabels old new →
+pub transitions-kept : (old new : List (List ℕ)) (states : ℕ) (es : List Triple) → KeepsLabels old new →
     All (IsTriple (length old) states) es → map (transition_of new) es ≡ map (transition_of old) es
 transitions-kept old new states [] keeps h = refl
 transitions-kept old new states (e ∷ es) keeps h = let text = keeps.texts (label_of e) (h 0 e (omega arith)).label in
     let rest = transitions-kept old new states es keeps (λ k d l. h (suc k) d (omega arith)) in
     search rules
 
--- If two transitions have equal sources, labels and targets, they are equal.
-pub transition-same : (s s' t t' : ℕ) (a a' : List ℕ) → s ≡ s' → a ≡ a' → t ≡ t' →
-    ◌≡◌ {A = Transition} (record { source = s; label = a; target = t })
-    (record { source = s'; label = a'; target = t' })
-transition-same s s' t t' a a' p q r = search rules
+-- States are numbers. `HasAppended` holds while the transitions of the system l are appended to a union, with the number
+-- `shift` added to each of their states. The label table and the triples were `old_labels` and `old_es` before, and are
+-- `labels` and es now. The first k transitions of l were appended, the part of the union that is built satisfies
+-- `IsJoined`, and the meter has counted k visits (reads of transitions). Its counts were `start` before, and are `now`.
+pub record HasAppended (l : Grouped) (shift : ℕ) (old_labels : List (List ℕ)) (old_es : List Triple)
+    (labels : List (List ℕ)) (es : List Triple) (start now : Counts) (k : ℕ) : Type 0 where
+  pub joined : IsJoined labels (shift + l.states) es
+  pub added : AddsShifted shift (map (transition_of l.labels) (take k l.places)) old_labels old_es labels es
+  pub visits : Costs start now 0 k k
 
 -- These lemmas assume that a triple e (source, label ID, target) with the label a is appended to the list es.
 module _ (old new : List (List ℕ)) (states : ℕ) (es : List Triple) (e : Triple) (a : List ℕ)
@@ -67,7 +73,7 @@ module _ (old new : List (List ℕ)) (states : ℕ) (es : List Triple) (e : Trip
   joins_next l0 e0 shift l k size h is source label target up =
       let kept = transitions-kept old new states es keeps g.each in
       let line : transition_of new e ≡ shifted shift (transition_of l.labels (place_at l.places k)) =
-      transition-same _ _ _ _ _ _ source (number.text ∙ label) target in (
+      λ i. record { source = source i; label = (number.text ∙ label) i; target = target i } in (
         grind (arith, common_steps, carried_all),
         rw (take_more l.places k (0, 0, 0) h) (search (rules, map_push, map-append, append_assoc, kept, line, up)),
       )
@@ -121,13 +127,13 @@ module _ (a b : Grouped) (labels : List (List ℕ)) (es : List Triple) (la : IsL
         (c.0, subst (λ es'. Contains es' c.0) (sym (made.places ∙ union-places)) c.1, c.2),
   )
 
-shifted-zero : (ts : List Transition) → map (shifted 0) ts ≡ ts
-shifted-zero [] = refl
-shifted-zero (t ∷ ts) = search (rules, transition-same, t.source, t.target, t.label, (shifted-zero ts))
+shifted-zero : ◌≡◌ {A = Transition → Transition} (shifted 0) (λ t. t)
+shifted-zero i t = record { source = zero-add t.source i; label = t.label; target = zero-add t.target i }
 
 -- Suppose that triples for the transitions of the first system are appended to an empty list, and that triples for the
 -- transitions of the second system are appended after them. Then the resulting triples represent the transitions of the
 -- union.
 pub AddsShifted-both : (n : ℕ) (ts us : List Transition) (l0 l1 l2 : List (List ℕ)) (e0 e1 e2 : List Triple) → e0 ≡ [] →
     AddsShifted 0 ts l0 e0 l1 e1 → AddsShifted n us l1 e1 l2 e2 → map (transition_of l2) e2 ≡ ts ++ map (shifted n) us
-AddsShifted-both n ts us l0 l1 l2 e0 e1 e2 none a b = search (rules, shifted-zero)
+AddsShifted-both n ts us l0 l1 l2 e0 e1 e2 none a b =
+    let first : map (shifted 0) ts ≡ ts = ap (λ f. map f ts) shifted-zero ∙ map-id ts in search (rules, first)

@@ -93,16 +93,13 @@ impl Joined {
     {
         let Part { l, shift } = part;
         l.invariants();
-        let (mut state, mut k) = (0, 0);
-        while k < l.edges() {
-            if k == l.row(state).1 {
-                state += 1;
-                continue;
+        for state in 0..l.states() {
+            let (start, end) = l.row(state);
+            for k in start..end {
+                let (label, target) = l.edge(k, m);
+                let number = label_id(&mut self.labels, guesses, l.labels().text(label), label)?;
+                self.triples.push((shift + state, number, shift + target))?;
             }
-            let (label, target) = l.edge(k, m);
-            let number = label_id(&mut self.labels, guesses, l.labels().text(label), label)?;
-            self.triples.push((shift + state, number, shift + target))?;
-            k += 1;
         }
         Ok(())
     }
