@@ -1,28 +1,17 @@
 -- A reader stores triples whose labels are IDs in a label table. These lemmas are about the triples, and about the
 -- transitions that the triples denote.
-use Rattle.std.proofs.Common.{◌≡◌, ℕ, ◌+◌, ◌<◌, ◌≤◌, Contains, List, [], ◌∷◌, ◌++◌, length, map, get_or, refl, sym, ap}
-use Rattle.std.proofs.Common.{ap₂, inl, inr, arith, All}
+use Rattle.std.proofs.Common.{◌≡◌, ℕ, ◌+◌, ◌<◌, ◌≤◌, Contains, List, [], ◌∷◌, ◌++◌, length, get_or, sym, ap}
+use Rattle.std.proofs.Common.{inl, inr, arith, All}
 use Rattle.std.proofs.lemmas.List.{length_push, length-map, map_push, get_or-map}
-use Rattle.std.proofs.lemmas.List.Elements.{All-head, All-tail, All-push, All-map, All-contains, Contains-append_left}
+use Rattle.std.proofs.lemmas.List.Elements.{All-push, All-map, All-contains, Contains-append_left}
 use Rattle.std.proofs.lemmas.List.Elements.{Contains-push}
 use Rattle.theory.specs.System.{Transition, IsAmong, hidden_label, hidden_transition}
 use Rattle.lts.specs.Labels.{KeepsLabels}
 use Rattle.lts.specs.Lts.{Triple, IsTriple, transition_of, label_of}
+use Rattle.lts.proofs.CallerLemmas.{transitions-kept}
 use Rattle.autfmt.specs.declared.held.Held.{Held}
 use Rattle.autfmt.specs.Held.{AddsTriple, AreShown, Holds}
 use Rattle.autfmt.proofs.Hiding.{hidden_label-again}
-
--- Suppose that triples of a source, a label ID and a target are stored. If labels are added to the label table, and all
--- labels that were in the table before keep their IDs, then each triple still denotes the same transition.
-pub kept_transitions :
-    (n : ℕ) (old now : List (List ℕ)) (es : List Triple) → KeepsLabels old now → All (IsTriple (length old) n) es →
-    map (transition_of now) es ≡ map (transition_of old) es
-kept_transitions n old now [] keeps all = refl
-kept_transitions n old now (e ∷ es) keeps all =
-    let first = All-head (IsTriple (length old) n) e es all in
-    let same = keeps.texts (label_of e) first.label in
-    ap₂ ◌∷◌ (λ i. record { source = e.0; label = same i; target = e.2 })
-    (kept_transitions n old now es keeps (All-tail (IsTriple (length old) n) e es all))
 
 -- Suppose that triples of a source, a label ID and a target are stored. If labels are added to the label table, then
 -- each label ID in a triple is still the ID of a label in the table.
@@ -57,7 +46,7 @@ pub Holds-add : (H : List (List ℕ)) (n : ℕ) (old now : Held) (es : List Tran
     Holds H n now (es ++ e ∷ [])
 Holds-add H n old now es e held among added =
     let triple : Triple = (e.source, added.number, e.target) in
-    let still = kept_transitions n old.labels now.labels old.transitions added.keeps held.among in
+    let still = transitions-kept old.labels now.labels n old.transitions added.keeps held.among in
     let all = kept_triples n old.labels now.labels old.transitions added.keeps held.among in
     let few = held.few_labels in
     let longer = one_label_more old now e.source (hidden_label H e.label) e.target added in

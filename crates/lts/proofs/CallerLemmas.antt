@@ -2,7 +2,7 @@
 -- proof file of this crate.
 pub use Rattle.lts.proofs.Contained.{contains_mapped, mapped_contains, contains_passing, passing_contains}
 pub use Rattle.lts.proofs.Filters.{filter-whole, length-filter-sum}
-pub use Rattle.lts.proofs.Joining.{take-split}
+pub use Rattle.lts.proofs.Joining.{take-split, transitions-kept}
 pub use Rattle.lts.proofs.Leaving.{index-fewer, index-leaves}
 pub use Rattle.lts.proofs.Rows.{before-mono, before-next, IsRow-before, before-le, row_of-contains}
 pub use Rattle.lts.proofs.Rows.{step_at, place_step, labels_have_ids, row_steps}
