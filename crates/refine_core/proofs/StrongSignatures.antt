@@ -13,7 +13,8 @@ use Rattle.theory.proofs.CallerLemmas.{step_below}
 use Rattle.lts.specs.Labels.{text_of}
 use Rattle.lts.specs.Lts.{Grouped, Triple, target_of, before, row_of, system_of, IsTriple, IsLts}
 use Rattle.lts.specs.Visited.{remaining_of}
-use Rattle.lts.proofs.CallerLemmas.{contains_mapped, mapped_contains, left_none, row_of-contains, row_steps}
+use Rattle.lts.proofs.CallerLemmas.{before-mono, before-next, before-le, contains_mapped, mapped_contains, left_none}
+use Rattle.lts.proofs.CallerLemmas.{row_of-contains, row_steps}
 use Rattle.signatures.specs.Lists.{list_at, Grow, pair_cmp}
 use Rattle.partition.specs.Blocks.{AreActive, InactiveHaveNone}
 use Rattle.inert.specs.Signed.{HasPair, IsSignature, pair_under}
@@ -112,6 +113,11 @@ module _ (blocks : List ℕ) (places : List Triple) (s start : ℕ) where
 
   pub pairs_none : [] ≡ pairs_to start
   pairs_none = search rules
+
+-- The list es contains transitions, and `before s es` is the number of those whose source is less than s. Suppose that
+-- `next` is at most s. Then `before next es` plus the number of the transitions from s is at most the length of es.
+pub row_within : (next s : ℕ) (es : List Triple) → next ≤ s → before next es + length (row_of s es) ≤ length es
+row_within next s es h = omega (arith, before-mono next s es h, before-next s es, before-le (s + 1) es)
 
 -- A visit is a read of a transition that the meter counts. Suppose that no transition was visited yet. Then the number
 -- of unvisited transitions of a state is the number of all transitions of this state.

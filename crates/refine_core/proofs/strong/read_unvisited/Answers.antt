@@ -3,7 +3,7 @@ use Rattle.std.proofs.lemmas.Grind.{common_steps}
 use Rattle.std.proofs.lemmas.List.{take_all}
 use Rattle.lts.specs.Visited.{price_between}
 use Rattle.lts.proofs.CallerLemmas.{row_left, price_none, price_first, price_split, price_one_more}
-use Rattle.refine_core.proofs.StrongSignatures.{row_all, pairs_none}
+use Rattle.refine_core.proofs.StrongSignatures.{row_all}
 use Rattle.refine_core.proofs.strong.read_unvisited.Goals as goal
 
 pub read-requires-clause-room : goal.read-requires-clause-room
@@ -14,7 +14,7 @@ returns-then-is_empty-clause-visits g c =
     search (rules, row_all, c.is_empty.ensures, c.if-is_empty.true, c.read.ensures.visits)
 
 pub loop-k-init : goal.loop-k-init
-loop-k-init g c = search (rules, pairs_none, price_none, c.in_ok-reserve.ensures.items, c.clear.ensures.items)
+loop-k-init g c = search (rules, price_none, c.in_ok-reserve.ensures.items, c.clear.ensures.items)
 
 pub edge-transition-requires-clause-room : goal.edge-transition-requires-clause-room
 edge-transition-requires-clause-room g c =
