@@ -35,7 +35,7 @@ use Rattle.quotient_core.proofs.Reaching.{marked_below}
 use Rattle.lts.proofs.CallerLemmas.{contains_mapped, mapped_contains, contains_passing, passing_contains}
 use Rattle.std.proofs.lemmas.Bool.{not-true, not_from_false}
 use Rattle.std.proofs.lemmas.List.Sums.{length-filter, count_by-le-length}
-use Rattle.quotient_core.proofs.Visits.{visits_then, room_after, Parts, rows_part, rows_few}
+use Rattle.quotient_core.proofs.Visits.{visits_then, Parts, rows_part, rows_few}
 
 -- `triple_cmp` compares two triples (source, label ID, target): first by source, then by label ID, then by target.
 abbrev triple_cmp : Triple → Triple → Ordering
@@ -147,10 +147,6 @@ pub rows_fit : (g : Grouped) (n : Numbering) (i : ℕ) → length (rows_of (is_b
     + length (rows_of (is_member n i) g.places) ≤ length g.places
 rows_fit g n i = let part = rows_part _ _ _ (below_next n i) g.places in
     omega (arith, part, rows_few (is_below n (i + 1)) g.places)
-
--- The lemmas about the number of visits (reads of transitions that the meter counts) of the loop that reads the
--- transitions of the system class by class.
-pub ruleset class_by_class = (rows_fit, rows_few, visits_then, room_after)
 
 -- A quotient transition is a transition between quotient states, which represent the classes of states. Suppose that
 -- the list xs contains exactly the quotient transitions of the classes with numbers less than i, and that no quotient

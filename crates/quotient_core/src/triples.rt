@@ -17,7 +17,6 @@ use std::alloc::Global;
 /// transitions of a state are the transitions of the quotient that come from transitions of this state. The caller must
 /// ensure the following condition (`ShowEachOther`). If the same quotient state represents the states s and t, and no
 /// transition of s is left out, then each quotient transition of t is also a quotient transition of s.
-#[tactic(auto, using(crate::proofs::Showing::class_by_class))]
 pub(crate) fn shown_transitions<M: Meter>(
     alloc: Global,
     l: &Lts<M>,
