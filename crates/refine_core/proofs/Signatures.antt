@@ -102,7 +102,7 @@ IsSplitSignature rel l old of s list = ((list ≡ []) × IsAsBefore rel l old of
 -- the split signature of this state, and that it contains the ID of the empty signature for each other state. The split
 -- signature of an active state in a singleton block (a block with one state) may be any list.
 module _ (rel : Relation) (l : Grouped) (lts : IsLts l) (r : Signed) (ready : IsReadyToSign rel l r)
-    (signatures : List (List (ℕ × ℕ))) (signature_ids : List ℕ) (first : list_at signatures 0 ≡ [])
+    (signatures : List (List (ℕ × ℕ))) (signature_ids : List ℕ) (are : AreLists signatures)
     (have : HaveSignatures r.blocks.block_ids r.blocks.active signatures signature_ids)
     (given : (s : ℕ) → s < l.states → IsMember r.blocks.active s → IsSingleton r.blocks.block_ids s
     ⊎ IsSplitSignature rel l ready.old r.blocks.block_ids s (list_of signatures signature_ids s)) where
@@ -150,26 +150,31 @@ module _ (rel : Relation) (l : Grouped) (lts : IsLts l) (r : Signed) (ready : Is
   told s t ls lt one (inr (inr p)) (inr (inr q)) = equal_lists rel l lts blocks s t _ _ p.2 q.2
 
   each : (s : ℕ) → s < l.states → Each s
-  each s h = grind (arith, ready.others s h, have.none s, given s h, have.states, ready.is.states, first)
+  each s h = grind (arith, ready.others s h, have.none s, given s h, have.states, ready.is.states, are.first)
 
-  tells : (s t : ℕ) → s < l.states → t < l.states → slice_index blocks s ≡ slice_index blocks t → Tells s t
-  tells s t ls lt one = told s t ls lt one (each s ls) (each t lt)
+  tells : (s t : ℕ) → s < l.states → t < l.states → slice_index blocks s ≡ slice_index blocks t
+      → (slice_index signature_ids s ≡ slice_index signature_ids t)
+      ↔ SameSignature rel (system_of l) (slice_index blocks) s t
+  tells s t ls lt one =
+      let (to, from) = told s t ls lt one (each s ls) (each t lt) in
+      let within = λ (s : ℕ) (h : s < l.states). have.each s 0 (omega (arith, h, have.states, ready.is.states)) in
+      (λ e. to (ap (list_at signatures) e), λ same. are.different _ _ (within s ls) (within t lt) (from same))
 
 -- Let r be the data of a round that is ready for computing strong signatures (`IsReadyToSign`). Suppose that, for each
 -- active state (each state that the round processes), the list `signature_ids` contains the ID of the split signature
 -- of the state. Suppose that, for each other state, this list contains the ID of the empty signature. Then the round
 -- has computed the signatures correctly (`SignsRound`).
 pub strong_signs : (l : Grouped) → IsLts l → (r : Signed) → IsReadyToSign Strong l r
-    → (signatures : List (List (ℕ × ℕ))) (signature_ids : List ℕ) → list_at signatures 0 ≡ []
+    → (signatures : List (List (ℕ × ℕ))) (signature_ids : List ℕ) → AreLists signatures
     → HaveSignatures r.blocks.block_ids r.blocks.active signatures signature_ids
     → ((s : ℕ) → IsMember r.blocks.active s → IsStrongSplitSignature l r.blocks.block_ids r.blocks.first_new s
     (list_of signatures signature_ids s))
     → SignsRound Strong l r (record r { signatures = signatures; signature_ids = signature_ids })
-strong_signs l lts r ready signatures signature_ids first have put = record {
+strong_signs l lts r ready signatures signature_ids are have put = record {
   blocks = refl;
   index = refl;
   have = have;
-  tells = tells Strong l lts r ready signatures signature_ids first have (λ s h one. inr (⊎_map
+  tells = tells Strong l lts r ready signatures signature_ids are have (λ s h one. inr (⊎_map
       (λ p. (p.0, unaffected_as_before l lts.system ready.old _ _ ready.is.follows s p.1))
       (λ q. (q.0, λ same. q.1 (as_before_unaffected l lts.system ready.old _ _ ready.is.follows s same), q.2))
       (put s one)));
@@ -299,7 +304,7 @@ module _ (l : Grouped) (r : Signed) (ready : IsReadyToSign Branching l r) where
       blocks = refl;
       index = refl;
       have = record { each = signs.ids; states = size; none = none };
-      tells = tells Branching l lts r ready signatures signature_ids are.first
+      tells = tells Branching l lts r ready signatures signature_ids are
           (record { each = signs.ids; states = size; none = none })
           (λ s h one. ⊎_map (λ alone. alone) (split_id lts s h one) ((ready.cached refl).each s h));
       cached = λ branching. record {

@@ -77,18 +77,18 @@ pub record MayBuildIndex (rel : Relation) (l : Grouped) (p r : Signed) : Type 0 
 -- that the round processes. The data of the round is p before the step, and r after the step. The step must not have
 -- changed the blocks and the predecessor index. After the step, `signature_ids` must contain the ID of an interned
 -- signature for each state, and the ID of the empty signature for each state that is not active (`HaveSignatures`).
--- Suppose that two states share a block. Then the IDs of these states in `signature_ids` must be IDs of equal lists if
--- and only if the signatures of the two states are equal (`SameSignature`). For branching bisimilarity, the new
--- signatures must be cached for the next round (`CachesIds`). Suppose that, in p, all blocks count as new (`first_new`
--- is 0) for strong bisimilarity, and that all cached signatures are empty for branching bisimilarity. Then
--- `signature_ids` must contain the ID of the signature of each active state.
+-- Suppose that two states share a block. Then `signature_ids` must contain the same ID for both states if and only if
+-- their signatures are equal (`SameSignature`). For branching bisimilarity, the new signatures must be cached for the
+-- next round (`CachesIds`). Suppose that, in p, all blocks count as new (`first_new` is 0) for strong bisimilarity, and
+-- that all cached signatures are empty for branching bisimilarity. Then `signature_ids` must contain the ID of the
+-- signature of each active state.
 pub record SignsRound (rel : Relation) (l : Grouped) (p r : Signed) : Type 0 where
   pub blocks : r.blocks ≡ p.blocks
   pub index : r.index ≡ p.index
   pub have : HaveSignatures r.blocks.block_ids r.blocks.active r.signatures r.signature_ids
   pub tells : (s t : ℕ) → s < l.states → t < l.states
       → slice_index r.blocks.block_ids s ≡ slice_index r.blocks.block_ids t
-      → (list_of r.signatures r.signature_ids s ≡ list_of r.signatures r.signature_ids t)
+      → (slice_index r.signature_ids s ≡ slice_index r.signature_ids t)
       ↔ SameSignature rel (system_of l) (slice_index r.blocks.block_ids) s t
   pub cached : rel ≡ Branching → CachesIds l r.blocks.block_ids r.signatures r.cached (Some r.blocks.block_ids)
   pub first : (rel ≡ Strong → p.blocks.first_new ≡ 0) → (rel ≡ Branching → (s : ℕ) → slice_index p.cached s ≡ 0)

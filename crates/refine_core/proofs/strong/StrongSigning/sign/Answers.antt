@@ -16,4 +16,4 @@ returns-clause-signed g c =
     c.in_ok-sign_active.ensures in
     let ready = rw (sym c.round.view_is) at c.requires.ready in
     rw (sym c.round.view_is) (strong_signs c.args.l.now c.invariants.ensures _ ready _ _
-    c.invariants-2.ensures.signatures.first done.signature_ids done.signed)
+    c.invariants-2.ensures.signatures done.signature_ids done.signed)
