@@ -175,13 +175,13 @@ strong_signs l lts r ready signatures signature_ids are have put = record {
   index = refl;
   have = have;
   tells = tells Strong l lts r ready signatures signature_ids are have (λ s h one. inr (⊎_map
-      (λ p. (p.0, unaffected_as_before l lts.system ready.old _ _ ready.is.follows s p.1))
+      (λ p. (p.0, unaffected_as_before Strong l lts.system ready.old _ _ (λ is. absurd cc) ready.is.follows s h p.1))
       (λ q. (q.0, λ same. q.1 (as_before_unaffected l lts.system ready.old _ _ ready.is.follows s same), q.2))
       (put s one)));
   cached = λ is. absurd cc;
   first = λ all _ s one. elim (put s one) [
     | inl (nil, still) ↦ rw nil (record {
-      exactly = λ k b. (λ c. absurd (omega (arith, c.1)), λ p. absurd (omega (arith, still _ p.1.0 p.1.1, all refl)));
+      exactly = λ k b. (λ c. absurd (omega (arith, c.1)), λ p. absurd (omega (arith, still.1 _ b p.1, all refl)));
       ascending = ascending_none pair_cmp;
     })
     | inr changed ↦ changed.2

@@ -1,15 +1,18 @@
--- Lemmas about strong signatures. The row of a state is the list of its outgoing transitions. The pair
--- of a transition consists of its label ID and the block ID of its target. For strong bisimilarity, the signature of a
--- state is the list of the pairs of its transitions, in ascending order and without duplicates.
+-- Lemmas about signatures that are the same as in the last round, and about strong signatures. The row of a state is the
+-- list of its outgoing transitions. The pair of a transition consists of its label ID and the block ID of its target.
+-- For strong bisimilarity, the signature of a state is the list of the pairs of its transitions, in ascending order and
+-- without duplicates.
 use Rattle.std.proofs.Common.{rules, ◌≡◌, ◌↔◌, ℕ, ◌+◌, ◌<◌, List, [], length, slice_index, set, Contains, arith, ◌-◌}
 use Rattle.std.proofs.Common.{◌≤◌, take, map, sym, refl, ap, inl, inr, ◌∙◌, Option, None, Some}
 use Rattle.std.proofs.lemmas.Grind.{common_steps}
 use Rattle.std.proofs.lemmas.List.{get_or-set_other, length-set}
 use Rattle.std.proofs.lemmas.List.Elements.{All-contains}
 use Rattle.std.specs.List.Sorted.{IsStrictlySortedBy}
-use Rattle.theory.specs.System.{System, Step, IsSystem}
-use Rattle.theory.specs.declared.relation.Relation.TheVariants.{Strong}
-use Rattle.theory.proofs.CallerLemmas.{step_below}
+use Rattle.theory.specs.System.{IsSystem}
+use Rattle.theory.specs.declared.relation.Relation.{Relation}
+use Rattle.theory.specs.declared.relation.Relation.TheVariants.{Strong, Branching}
+use Rattle.theory.specs.Unaffected.{MentionsOnlyOld}
+use Rattle.theory.proofs.CallerLemmas.{step_below, still_stays}
 use Rattle.lts.specs.Labels.{text_of}
 use Rattle.lts.specs.Lts.{Grouped, Triple, target_of, before, row_of, system_of, IsTriple, IsLts}
 use Rattle.lts.specs.Visited.{remaining_of}
@@ -20,32 +23,31 @@ use Rattle.partition.specs.Blocks.{AreActive, InactiveHaveNone}
 use Rattle.inert.specs.Signed.{HasPair, IsSignature, pair_under}
 use Rattle.refine_core.specs.Signatures.{list_of, HasNewBlock, IsAsBefore, IsStrongSplitSignature, Follows}
 
--- `IsUnaffected` holds if each transition of the state s leads to an old block. A block is old if its ID is less than
--- `first_new`. The last split has made all other blocks.
-abbrev pub IsUnaffected : System → (ℕ → ℕ) → ℕ → ℕ → Type 0
-IsUnaffected A blocks first_new s = (a : List ℕ) (t : ℕ) → Step A s a t → blocks t < first_new
+-- Suppose that the blocks result from splitting the blocks of the last round (`Follows`). For branching bisimilarity,
+-- suppose also that the signatures have not been discarded since the last round. If the signature of the state s
+-- contains no ID of a new block, and for branching bisimilarity s is not in a new block either (`MentionsOnlyOld`), then
+-- the signature of s is the same as in the last round.
+pub unaffected_as_before : (rel : Relation) (l : Grouped) → IsSystem (system_of l) → (old : Option (List ℕ))
+    (of : List ℕ) (low : ℕ) → (rel ≡ Branching → ¬ (old ≡ None)) → Follows rel l old of low → (s : ℕ) → s < l.states
+    → MentionsOnlyOld rel (system_of l) (slice_index of) low s → IsAsBefore rel l old of s
+unaffected_as_before Strong l sys None of low some follows s h still a b =
+    (λ can. absurd (omega (arith, still.1 a b can, follows refl)), λ none. absurd none)
+unaffected_as_before Branching l sys None of low some follows s h still a b = absurd (some refl refl)
+unaffected_as_before rel l sys (Some old) of low some follows s h still a b =
+    still_stays (system_of l) sys (slice_index old) (slice_index of)
+    (λ s t ls lt e. ((follows.split s t ls lt).0 e).0) low follows.stays s h rel still a b
 
--- Suppose that no transition of the state s leads to a new block, which is a block that the last split has made. Then
--- the strong signature of s is the same as in the last round.
-pub unaffected_as_before : (l : Grouped) → IsSystem (system_of l) → (old : Option (List ℕ)) (of : List ℕ) (low : ℕ)
-    → Follows Strong l old of low → (s : ℕ) → IsUnaffected (system_of l) (slice_index of) low s
-    → IsAsBefore Strong l old of s
-unaffected_as_before l sys None of low follows s still a b =
-    (λ h. absurd (omega (arith, still a h.0 h.1, follows refl)), λ none. absurd none)
-unaffected_as_before l sys (Some old) of low follows s still a b =
-    let same = λ (t : ℕ) (step : Step (system_of l) s a t). follows.stays t
-    (step_below (system_of l) sys s a t step).1 (still a t step) in
-    (λ h. (h.0, h.1, sym (same h.0 h.1) ∙ h.2), λ h. (h.0, h.1, same h.0 h.1 ∙ h.2))
-
--- Suppose that the strong signature of the state s is the same as in the last round. Then no transition of s leads to a
--- new block, which is a block that the last split has made.
+-- Suppose that the strong signature of the state s is the same as in the last round. Then it contains no ID of a new
+-- block, which is a block that the last split has made.
 pub as_before_unaffected : (l : Grouped) → IsSystem (system_of l) → (old : Option (List ℕ)) (of : List ℕ) (low : ℕ)
     → Follows Strong l old of low → (s : ℕ) → IsAsBefore Strong l old of s
-    → IsUnaffected (system_of l) (slice_index of) low s
-as_before_unaffected l sys None of low follows s same a t step = absurd ((same a (slice_index of t)).0 (t, step, refl))
-as_before_unaffected l sys (Some old) of low follows s same a t step =
-    let (u, was, is) = (same a (slice_index of t)).0 (t, step, refl) in
-    omega (arith, follows.below u (step_below (system_of l) sys s a u was).1, is)
+    → MentionsOnlyOld Strong (system_of l) (slice_index of) low s
+as_before_unaffected l sys None of low follows s same = (λ is. absurd cc, λ a b can. absurd ((same a b).0 can))
+as_before_unaffected l sys (Some old) of low follows s same = (
+  λ is. absurd cc,
+  λ a b can. let (u, was, is) = (same a b).0 can in
+      omega (arith, follows.below u (step_below (system_of l) sys s a u was).1, is),
+)
 
 -- The following lemmas are about the row of the state s, which is the list of the stored transitions from s.
 module _ (l : Grouped) (blocks : List ℕ) (s : ℕ) (h : IsLts l) where
@@ -87,7 +89,7 @@ module _ (l : Grouped) (blocks : List ℕ) (s : ℕ) (h : IsLts l) where
     pub row_affected : (first_new : ℕ) → HasNewBlock first_new pairs → IsStrongSplitSignature l blocks first_new s zs
     row_affected first_new (z, in_row, new) = inr (
       λ none. absurd (omega (arith, (rw none at ((same z).1 in_row)).1)),
-      λ still. let (t, step, target) = (has z in_row).1 in omega (arith, still _ t step, new, target),
+      λ still. omega (arith, still.1 _ z.1 (has z in_row).1, new),
       row_signature,
     )
 
@@ -96,11 +98,14 @@ module _ (l : Grouped) (blocks : List ℕ) (s : ℕ) (h : IsLts l) where
   pub row_unaffected : (first_new : ℕ) → ¬ HasNewBlock first_new pairs → IsStrongSplitSignature l blocks first_new s []
   row_unaffected first_new none = inl (
     refl,
-    λ a t step.
-        let (e, in_row, _, target) = (row_steps l s a t).0 step in
-        let c = contains_mapped (pair_under blocks) (row_of s l.places) e in_row in
-        let apart : ¬ (first_new ≤ slice_index blocks (target_of e)) = λ h. none (pair_under blocks e, c, h) in
-        omega (arith, apart, ap (slice_index blocks) target),
+    (
+      λ is. absurd cc,
+      λ a b (t, step, at).
+          let (e, in_row, _, target) = (row_steps l s a t).0 step in
+          let c = contains_mapped (pair_under blocks) (row_of s l.places) e in_row in
+          let apart : ¬ (first_new ≤ slice_index blocks (target_of e)) = λ h. none (pair_under blocks e, c, h) in
+          omega (arith, apart, ap (slice_index blocks) target, at),
+    ),
   )
 
 -- The place of a transition is its index in the list of all transitions. The transitions of the state s follow each

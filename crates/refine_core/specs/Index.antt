@@ -7,11 +7,11 @@ use Rattle.std.specs.Prelude.{◌≡◌, ◌⊎◌, ℕ, ◌<◌, ◌≤◌, ◌
 use Rattle.std.specs.Prelude.{slice_index, slice_index_or}
 use Rattle.std.specs.List.{All, IsDistinct}
 use Rattle.std.specs.Io.{StartsWith}
-use Rattle.theory.specs.System.{internal}
+use Rattle.theory.specs.System.{Step, internal}
 use Rattle.theory.specs.declared.relation.Relation.{Relation}
 use Rattle.theory.specs.declared.relation.Relation.TheVariants.{Branching}
-use Rattle.lts.specs.Labels.{text_of}
-use Rattle.lts.specs.Lts.{Grouped, Triple, source_of, label_of, target_of, place_at}
+use Rattle.theory.specs.Unaffected.{AreEnoughToProcess}
+use Rattle.lts.specs.Lts.{Grouped, Triple, source_of, target_of, place_at, system_of}
 use Rattle.lts.specs.Incoming.{Entries, IsIndex}
 use Rattle.lts.specs.Visited.{HasVisited}
 use Rattle.lts.specs.Meter.{Counts, HasRoomFor}
@@ -34,39 +34,20 @@ pub record HasIndex (rel : Relation) (l : Grouped) (of : List ℕ) (x : Entries)
 abbrev pub IsFoundOrSingleton : List ℕ → List ℕ → ℕ → Type 0
 IsFoundOrSingleton of found s = IsMember found s ⊎ IsSingleton of s
 
--- `IsAsked` holds if a search has to find the source of the transition at the place p (its index in the list of all
--- transitions). If `inert` is false, the search has to find the source of every transition. If `inert` is true, the
--- search has to find the source only if the transition is inert. A transition is inert if it is internal, and if its
--- source and its target are in the same block.
-abbrev pub IsAsked : Bool → Grouped → List ℕ → ℕ → Type 0
-IsAsked inert l of p = IsTrue inert → (text_of l.labels (label_of (place_at l.places p)) ≡ internal)
-    × (slice_index of (source_of (place_at l.places p)) ≡ slice_index of (target_of (place_at l.places p)))
-
--- `FindsSources` holds if a search has found the sources of certain transitions to the state t. If `inert` is false,
--- the search must have found the source of each transition to t. If `inert` is true, the search must have found the
--- source of each inert transition to t (`IsAsked`). Sources in singleton blocks (blocks with one state) need not be
--- found.
+-- `FindsSources` holds if a search has found the sources of certain steps to the state t. If `inert` is false, the
+-- search must have found the source of each step to t. If `inert` is true, the search must have found the source of
+-- each inert step to t. A step is inert if it is internal, and if its source and its target are in the same block.
+-- Sources in singleton blocks (blocks with one state) need not be found.
 abbrev pub FindsSources : Bool → Grouped → List ℕ → List ℕ → ℕ → Type 0
-FindsSources inert l of found t = (p : ℕ) → p < length l.places → target_of (place_at l.places p) ≡ t
-    → IsAsked inert l of p → IsFoundOrSingleton of found (source_of (place_at l.places p))
-
--- `FindsNew` holds if a search has found all states that it has to find for the state t of a new block. A new block is
--- a block that the last split has made. The search has to find the sources of all transitions to t. For branching
--- bisimilarity, the search has to find t itself, too. States in singleton blocks (blocks with one state) need not be
--- found.
-abbrev pub FindsNew : Relation → Grouped → List ℕ → List ℕ → ℕ → Type 0
-FindsNew rel l of found t = FindsSources false l of found t × (rel ≡ Branching → IsFoundOrSingleton of found t)
+FindsSources inert l of found t = (s : ℕ) (a : List ℕ) → Step (system_of l) s a t
+    → (IsTrue inert → (a ≡ internal) × (slice_index of s ≡ slice_index of t)) → IsFoundOrSingleton of found s
 
 -- `SearchIsComplete` holds if the list `found` of the states that a search has found contains all states that the
--- search has to find. A block is new if the last split has made it, and otherwise it is old. For each state t of a new
--- block, the search has to find the sources of all transitions to t. For branching bisimilarity, the search also has to
--- find each state of a new block. For each found state t of an old block, the search then has to find the sources of
--- the inert transitions to t. States in singleton blocks (blocks with one state) need not be found.
-pub record SearchIsComplete (rel : Relation) (l : Grouped) (p : RoundBlocks) (found : List ℕ) : Type 0 where
-  pub new : (t : ℕ) → t < length p.block_ids → p.first_new ≤ slice_index p.block_ids t
-      → FindsNew rel l p.block_ids found t
-  pub back : rel ≡ Branching → (t : ℕ) → IsMember found t → slice_index p.block_ids t < p.first_new
-      → FindsSources true l p.block_ids found t
+-- search has to find: all states whose signatures may have changed (`AreEnoughToProcess`). States in singleton blocks
+-- (blocks with one state) need not be found.
+abbrev pub SearchIsComplete : Relation → Grouped → RoundBlocks → List ℕ → Type 0
+SearchIsComplete rel l p found = AreEnoughToProcess rel (system_of l) (slice_index p.block_ids) p.first_new
+    (IsFoundOrSingleton p.block_ids found)
 
 -- `AreFound` holds if both of the following conditions hold. First, the list `found` contains all states that a search
 -- has to find (`SearchIsComplete`). Second, the states in this list are in strictly ascending order.

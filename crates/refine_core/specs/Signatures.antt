@@ -8,9 +8,8 @@ use Rattle.std.specs.Prelude.{◌≡◌, ◌⊎◌, ◌↔◌, ℕ, ◌<◌, ◌
 use Rattle.std.specs.List.{Contains}
 use Rattle.theory.specs.declared.relation.Relation.{Relation}
 use Rattle.theory.specs.declared.relation.Relation.TheVariants.{Strong, Branching}
-use Rattle.theory.specs.System.{Step}
 use Rattle.theory.specs.Blocks.{Signature, Split}
-use Rattle.theory.specs.Unaffected.{KeepsBlockIds}
+use Rattle.theory.specs.Unaffected.{KeepsBlockIds, MentionsOnlyOld}
 use Rattle.lts.specs.Lts.{Grouped, system_of}
 use Rattle.lts.specs.Incoming.{Entries}
 use Rattle.signatures.specs.Lists.{list_at, AreIds}
@@ -90,12 +89,12 @@ abbrev pub HasNewBlock : ℕ → List (ℕ × ℕ) → Type 0
 HasNewBlock first_new pairs = (z : ℕ × ℕ) × Contains pairs z × (first_new ≤ z.1)
 
 -- `IsStrongSplitSignature` holds if `list` is the split signature of the state s for strong bisimilarity. A block is
--- new if its ID is at least `first_new`, and otherwise it is old. If each transition of s leads to an old block, the
--- signature of s is the same as in the last round, and `list` must be empty. Otherwise, `list` must be the signature of
--- s, and must not be empty.
+-- new if its ID is at least `first_new`. If no block ID in the signature of s is new (`MentionsOnlyOld`), this signature
+-- is the same as in the last round, and `list` must be empty. Otherwise, `list` must be the signature of s, and must not
+-- be empty.
 abbrev pub IsStrongSplitSignature : Grouped → List ℕ → ℕ → ℕ → List (ℕ × ℕ) → Type 0
 IsStrongSplitSignature l of first_new s list =
-    let unaffected = (a : List ℕ) (t : ℕ) → Step (system_of l) s a t → slice_index of t < first_new in
+    let unaffected = MentionsOnlyOld Strong (system_of l) (slice_index of) first_new s in
     ((list ≡ []) × unaffected) ⊎ (¬ (list ≡ []) × ¬ unaffected × IsSignature Strong l of s list)
 
 -- `CachesIds` holds if both of the following conditions hold. First, the list `cached` contains the ID of an interned

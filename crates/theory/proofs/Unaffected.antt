@@ -3,10 +3,11 @@
 use Rattle.std.proofs.Common.{◌≡◌, ◌⊎◌, ℕ, ◌<◌, ◌≤◌, List, [], ◌∷◌, Contains, refl, sym, ◌∙◌, subst, inl, inr, arith}
 use Rattle.std.proofs.lemmas.Bool.{cases_eq, cases_lt}
 use Rattle.theory.specs.System.{System, IsSystem, Transition, Step, Along, Leads, internal}
-use Rattle.theory.specs.declared.relation.Relation.TheVariants.{Branching}
+use Rattle.theory.specs.declared.relation.Relation.{Relation}
+use Rattle.theory.specs.declared.relation.Relation.TheVariants.{Strong, Branching}
 use Rattle.theory.specs.Blocks.{Inert, Signature}
 use Rattle.theory.specs.Unaffected.{Refines, KeepsBlockIds, MentionsOnlyOld, KeepsSignature, HasEmptySignature}
-use Rattle.theory.specs.Unaffected.{IsOnlyMember, AreEnoughToProcess}
+use Rattle.theory.specs.Unaffected.{AreEnoughToProcess}
 use Rattle.theory.proofs.Deciding.{both, some_in}
 use Rattle.theory.proofs.Paths.{leads_here, leads_on, leads_keeps, leads_map, step_below}
 use Rattle.theory.proofs.BranchingLaws.{inert_same}
@@ -52,28 +53,28 @@ module _ (A : System) (sys : IsSystem A) (old new : ℕ → ℕ) (refines : Refi
         | inr d ↦ absurd (none internal (new y) (x, y, h, r.0, refl, λ e. d e.1))
       ]
 
-  -- A block ID is new if it is at least `first_new`. Suppose that neither the block ID of the state s nor any block ID
-  -- in its branching signature is new after the split. Then the split has not changed the signature.
-  module _ (first_new : ℕ) (keeps : KeepsBlockIds A old new first_new) (s : ℕ) (ls : s < A.states)
-      (still : MentionsOnlyOld A new first_new s) where
-    inside : (x y : ℕ) → Leads (Inert A new) s x → Inert A old x y → new y ≡ new s
-    inside x y h r = elim (cases_lt (new y) first_new) [
+  -- A block ID is new if it is at least `first_new`. Suppose that no block ID in the signature of the state s is new
+  -- after the split. For branching bisimilarity, suppose also that the block ID of s is not new after the split. Then
+  -- the split has not changed the signature of s.
+  module _ (first_new : ℕ) (keeps : KeepsBlockIds A old new first_new) (s : ℕ) (ls : s < A.states) where
+    inside : MentionsOnlyOld Branching A new first_new s → (x y : ℕ) → Leads (Inert A new) s x → Inert A old x y
+        → new y ≡ new s
+    inside still x y h r = elim (cases_lt (new y) first_new) [
       | inl l ↦ keeps y (step_below A sys x internal y r.0).1 l ∙ r.1 ∙ inert_same A old s x (path_was s x h)
-          ∙ sym (keeps s ls still.0)
+          ∙ sym (keeps s ls (still.0 refl))
       | inr l ↦
-          let shown = still.1 internal (new y) (x, y, h, r.0, refl, λ e. absurd (omega (arith, e.1, l, still.0))) in
+          let low = still.0 refl in
+          let shown = still.1 internal (new y) (x, y, h, r.0, refl, λ e. absurd (omega (arith, e.1, l, low))) in
           absurd (omega (arith, shown, l))
     ]
 
-    pub still_stays : KeepsSignature A old new s
-    still_stays a b = (to, from)
+    pub still_stays : (rel : Relation) → MentionsOnlyOld rel A new first_new s → KeepsSignature rel A old new s
+    still_stays Strong still a b =
+        let same = λ (t : ℕ) (step : Step A s a t).
+        keeps t (step_below A sys s a t step).1 (still.1 a (new t) (t, step, refl)) in
+        (λ (t, step, at). (t, step, sym (same t step) ∙ at), λ (t, step, at). (t, step, same t step ∙ at))
+    still_stays Branching still a b = (from, to)
       where
-        to : Signature Branching A old s a b → Signature Branching A new s a b
-        to (u, t, way, step, at, shows) =
-            let can = shown_now s u a t ls (path_is s u inside way) step (λ e. shows (e.0, sym at ∙ e.1)) in
-            let is = keeps t (step_below A sys u a t step).1 (still.1 a (new t) can) ∙ at in
-            subst (Signature Branching A new s a) is can
-
         from : Signature Branching A new s a b → Signature Branching A old s a b
         from (u, t, way, step, at, shows) =
             let l : new t < first_new =
@@ -83,62 +84,78 @@ module _ (A : System) (sys : IsSystem A) (old new : ℕ → ℕ) (refines : Refi
               path_was s u way,
               step,
               sym (keeps t (step_below A sys u a t step).1 l) ∙ at,
-              λ e. shows (e.0, e.1 ∙ sym (keeps s ls still.0)),
+              λ e. shows (e.0, e.1 ∙ sym (keeps s ls (still.0 refl))),
             )
 
+        to : Signature Branching A old s a b → Signature Branching A new s a b
+        to (u, t, way, step, at, shows) =
+            let can = shown_now s u a t ls (path_is s u (inside still) way) step (λ e. shows (e.0, sym at ∙ e.1)) in
+            let is = keeps t (step_below A sys u a t step).1 (still.1 a (new t) can) ∙ at in
+            subst (Signature Branching A new s a) is can
+
 -- In the following lemmas, `active` holds for the active states, which are the states that a round processes. These
--- states include all states whose signatures may have changed (`AreEnoughToProcess`), except for states in singleton
--- blocks (blocks with one state), which may be left out.
-module _ (A : System) (sys : IsSystem A) (blocks : ℕ → ℕ) (first_new : ℕ)
-    (active : ℕ → Type 0) (looks : AreEnoughToProcess A blocks first_new active) where
+-- states include all states whose signatures may have changed (`AreEnoughToProcess`). A block ID is new if it is at
+-- least `first_new`, and otherwise it is old.
+module _ (A : System) (sys : IsSystem A) (blocks : ℕ → ℕ) (first_new : ℕ) (active : ℕ → Type 0) where
   -- The active states are the states that the round processes. Suppose that the state s is in an old block, which
   -- existed before the split, and that a path of inert steps leads from s to an active state. Then s is active, too.
-  found_back : (s : ℕ) (us : List ℕ) (u : ℕ) → blocks s < first_new → Along (Inert A blocks) s us u → active u
-      → active s
-  found_back s [] u l here found = subst active (sym here) found
-  found_back s (t ∷ us) u l (first, way) found =
+  found_back : AreEnoughToProcess Branching A blocks first_new active → (s : ℕ) (us : List ℕ) (u : ℕ)
+      → blocks s < first_new → Along (Inert A blocks) s us u → active u → active s
+  found_back looks s [] u l here found = subst active (sym here) found
+  found_back looks s (t ∷ us) u l (first, way) found =
       let old = subst (λ x. x < first_new) (sym first.1) l in
-      looks.inner s t first old (found_back t us u old way found)
+      let below = (step_below A sys s internal t first.0).0 in
+      looks.inner refl s t below first old (found_back looks t us u old way found)
 
-  -- Suppose that a state is in an old block, which existed before the split, and that its signature contains the ID of
-  -- a new block. Then the round processes this state, or no other state is in its block.
-  shows_new : (s : ℕ) (a : List ℕ) (b : ℕ) → s < A.states → blocks s < first_new
-      → Signature Branching A blocks s a b → first_new ≤ b
-      → active s ⊎ IsOnlyMember A blocks s
-  shows_new s a b ls l (u, t, way, step, at, shows) new = elim (looks.sources u a t step (omega (arith, at, new))) [
-    | inl found ↦ inl (found_back s way.0 u l way.1 found)
-    | inr only ↦ inr (subst (IsOnlyMember A blocks) (sym (only s ls (sym (inert_same A blocks s u way)))) only)
-  ]
+  -- Suppose that the signature of a state contains the ID of a new block. For branching bisimilarity, suppose also that
+  -- the state is in an old block, which existed before the split. Then the round processes this state.
+  shows_new : (rel : Relation) → AreEnoughToProcess rel A blocks first_new active → (s : ℕ) (a : List ℕ) (b : ℕ)
+      → (rel ≡ Branching → blocks s < first_new) → Signature rel A blocks s a b → first_new ≤ b → active s
+  shows_new Strong looks s a b old (t, step, at) new =
+      looks.sources s a t (step_below A sys s a t step).1 step (omega (arith, at, new))
+  shows_new Branching looks s a b old (u, t, way, step, at, shows) new =
+      let found = looks.sources u a t (step_below A sys u a t step).1 step (omega (arith, at, new)) in
+      found_back looks s way.0 u (old refl) way.1 found
 
   -- `GivesNew` holds if both of the following conditions hold. First, the signature of the state s contains the pair
   -- (label, target block) of the transition e. Second, this block is new, which means that its ID is at least
   -- `first_new`.
-  abbrev GivesNew : ℕ → Transition → Type 0
-  GivesNew s e = Signature Branching A blocks s e.label (blocks e.target) × (first_new ≤ blocks e.target)
+  abbrev GivesNew : Relation → ℕ → Transition → Type 0
+  GivesNew rel s e = Signature rel A blocks s e.label (blocks e.target) × (first_new ≤ blocks e.target)
 
-  gives_new_decided : (s : ℕ) (e : Transition) → Dec (GivesNew s e)
-  gives_new_decided s e =
-      both (signature_decided A blocks Branching sys s e.label (blocks e.target)) (at_least first_new (blocks e.target))
+  -- Each pair in the signature of a state is the pair (label, target block) of some transition.
+  pair_given : (rel : Relation) (s : ℕ) (a : List ℕ) (b : ℕ) → Signature rel A blocks s a b
+      → (e : Transition) × Contains A.transitions e × (e.label ≡ a) × (blocks e.target ≡ b)
+  pair_given Strong s a b (t, step, at) = (record { source = s; label = a; target = t }, step, refl, at)
+  pair_given Branching s a b (u, t, way, step, at, shows) =
+      (record { source = u; label = a; target = t }, step, refl, at)
 
   -- If no transition contributes a pair with a new block ID to the signature of the state s, then no block ID in this
   -- signature is new.
-  shows_old : (s : ℕ) → ¬ ((e : Transition) × Contains A.transitions e × GivesNew s e)
-      → (a : List ℕ) (b : ℕ) → Signature Branching A blocks s a b → b < first_new
-  shows_old s none a b (u, t, way, step, at, shows) = elim (cases_lt b first_new) [
+  shows_old : (rel : Relation) (s : ℕ) → ¬ ((e : Transition) × Contains A.transitions e × GivesNew rel s e)
+      → (a : List ℕ) (b : ℕ) → Signature rel A blocks s a b → b < first_new
+  shows_old rel s none a b can = elim (cases_lt b first_new) [
     | inl l ↦ l
-    | inr l ↦
-        let e : Transition = record { source = u; label = a; target = t } in
-        absurd (none (e, step, ((u, t, way, step, refl, λ i. shows (i.0, sym at ∙ i.1)), omega (arith, at, l))))
+    | inr l ↦ let (e, has, label, at) = pair_given rel s a b can in
+        absurd (none (e, has, (rw (label, at) can, omega (arith, at, l))))
   ]
 
-  pub reach_found : (s : ℕ) → s < A.states → active s ⊎ IsOnlyMember A blocks s ⊎ MentionsOnlyOld A blocks first_new s
-  reach_found s ls = elim (cases_lt (blocks s) first_new) [
-    | inr l ↦ elim (looks.new s ls l) [ inl found ↦ inl found | inr only ↦ inr (inl only) ]
-    | inl l ↦ elim (some_in (GivesNew s) (gives_new_decided s) A.transitions) [
-      | no none ↦ inr (inr (l, shows_old s none))
-      | yes some ↦ elim (shows_new s some.0.label (blocks some.0.target) ls l some.2.0 some.2.1) [
-        | inl found ↦ inl found
-        | inr only ↦ inr (inl only)
+  -- Let s be a state. For branching bisimilarity, suppose that the block ID of s is old. Then the round processes s, or
+  -- neither the block ID of s nor any block ID in the signature of s is new.
+  found_or_old : (rel : Relation) → AreEnoughToProcess rel A blocks first_new active → (s : ℕ)
+      → (rel ≡ Branching → blocks s < first_new) → active s ⊎ MentionsOnlyOld rel A blocks first_new s
+  found_or_old rel looks s old =
+      let decided = λ (e : Transition).
+      both (signature_decided A blocks rel sys s e.label (blocks e.target)) (at_least first_new (blocks e.target)) in
+      elim (some_in (GivesNew rel s) decided A.transitions) [
+        | no none ↦ inr (old, shows_old rel s none)
+        | yes (e, has, new) ↦ inl (shows_new rel looks s e.label (blocks e.target) old new.0 new.1)
       ]
-    ]
+
+  pub reach_found : (rel : Relation) → AreEnoughToProcess rel A blocks first_new active → (s : ℕ) → s < A.states
+      → active s ⊎ MentionsOnlyOld rel A blocks first_new s
+  reach_found Strong looks s ls = found_or_old Strong looks s (λ is. absurd cc)
+  reach_found Branching looks s ls = elim (cases_lt (blocks s) first_new) [
+    | inl l ↦ found_or_old Branching looks s (λ is. l)
+    | inr l ↦ inl (looks.new refl s ls l)
   ]
