@@ -23,9 +23,8 @@ use Rattle.signatures.proofs.CallerLemmas.{ascending_none, ascending_unique}
 use Rattle.partition.specs.Splitting.{IsSingleton, Splits}
 use Rattle.partition.specs.Blocks.{IsMember, InactiveHaveNone}
 use Rattle.inert.specs.Signed.{CachesBeside, SignsActive, IsListOf, IsSignature}
-use Rattle.refine_core.specs.Signatures.{Signed, HaveSignatures, list_of, Was, IsAsBefore, Follows}
-use Rattle.refine_core.specs.Signatures.{IsStrongSplitSignature}
-use Rattle.refine_core.specs.IndexState.{IsReadyToSign, SignsRound}
+use Rattle.refine_core.specs.Rounds.{Signed, HaveSignatures, list_of, Was, IsAsBefore, Follows, IsStrongSplitSignature}
+use Rattle.refine_core.specs.Rounds.{IsReadyToSign, SignsRound}
 use Rattle.refine_core.proofs.StrongSignatures.{unaffected_as_before, as_before_unaffected}
 
 -- Suppose that the list `signature_ids` contains a signature ID for each state, and the ID of the empty signature for

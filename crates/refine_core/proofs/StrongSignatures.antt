@@ -21,7 +21,7 @@ use Rattle.lts.proofs.CallerLemmas.{row_of-contains, row_steps}
 use Rattle.signatures.specs.Lists.{list_at, Grow, pair_cmp}
 use Rattle.partition.specs.Blocks.{AreActive, InactiveHaveNone}
 use Rattle.inert.specs.Signed.{HasPair, IsSignature, pair_under}
-use Rattle.refine_core.specs.Signatures.{list_of, HasNewBlock, IsAsBefore, IsStrongSplitSignature, Follows}
+use Rattle.refine_core.specs.Rounds.{list_of, HasNewBlock, IsAsBefore, IsStrongSplitSignature, Follows}
 
 -- Suppose that the blocks result from splitting the blocks of the last round (`Follows`). For branching bisimilarity,
 -- suppose also that the signatures have not been discarded since the last round. If the signature of the state s

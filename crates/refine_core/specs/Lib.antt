@@ -1,3 +1,2 @@
-pub mod Signatures
 pub mod Index
-pub mod IndexState
+pub mod Rounds

@@ -5,7 +5,7 @@ ghost use Rattle.theory.specs.Blocks.{Turns, EachTwo};
 ghost use Rattle.lts.specs.Meter.{HasRoomFor, Costs, CostsUpTo};
 ghost use Rattle.lts.specs.Lts.{system_of};
 ghost use Rattle.partition.specs.Partition.{IsSomePartition};
-ghost use Rattle.refine_core.specs.IndexState.{Awaits, IsNextRound, RenumbersFew};
+ghost use Rattle.refine_core.specs.Rounds.{Awaits, IsNextRound, RenumbersFew};
 
 use crate::signed_blocks::{SignedBlocks, splittable_states};
 use crate::signing::{Signing, begin_round, sign_and_visit_rest};

@@ -5,8 +5,7 @@ ghost use Rattle.memory.specs.declared.limits.TheConstants.{MOST_STATES};
 ghost use Rattle.signatures.specs.Lists.{AreIds, AreLists};
 ghost use Rattle.partition.specs.Partition.{AreBlocks};
 ghost use Rattle.partition.specs.Blocks.{AreActive, AreSplitBlocks, DropsSingletons, InactiveHaveNone};
-ghost use Rattle.refine_core.specs.Signatures.{HasNoSignatures};
-ghost use Rattle.refine_core.specs.IndexState.{AreAllActive, Awaits, IsReadyToSign, MayBuildIndex};
+ghost use Rattle.refine_core.specs.Rounds.{HasNoSignatures, AreAllActive, Awaits, IsReadyToSign, MayBuildIndex};
 ghost use Rattle.theory.specs.declared.relation.Relation.{Relation};
 ghost use Rattle.lts.specs.Meter.{HasRoomFor, Costs};
 ghost use Rattle.lts.specs.Visited.{HasVisited};
@@ -77,7 +76,7 @@ pub struct SignedBlocks {
 impl Model for SignedBlocks {
     ghost use Rattle.std.specs.Prelude.{◌≡◌, length};
     ghost use Rattle.partition.specs.Blocks.{InactiveHaveNone};
-    ghost use Rattle.refine_core.specs.Signatures.{Signed};
+    ghost use Rattle.refine_core.specs.Rounds.{Signed};
 
     ghost Value = { Signed };
 

@@ -8,8 +8,7 @@ ghost use Rattle.lts.specs.Visited.{AreVisited, HasVisited, remaining_of};
 ghost use Rattle.signatures.specs.Lists.{AreIds};
 ghost use Rattle.partition.specs.Blocks.{IsMember};
 ghost use Rattle.inert.specs.Signed.{IsSignature};
-ghost use Rattle.refine_core.specs.Signatures.{HasNoSignatures, list_of};
-ghost use Rattle.refine_core.specs.IndexState.{Awaits, IsReadyToSign, SignsRound};
+ghost use Rattle.refine_core.specs.Rounds.{HasNoSignatures, list_of, Awaits, IsReadyToSign, SignsRound};
 
 use crate::signed_blocks::SignedBlocks;
 use lts::{Lts, Memory, Meter, visit_rest};

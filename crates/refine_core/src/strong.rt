@@ -11,7 +11,7 @@ ghost use Rattle.signatures.specs.Lists.{list_at, Grow};
 ghost use Rattle.partition.specs.Blocks.{IsMember, HaveSignatureIds};
 ghost use Rattle.inert.specs.Signed.{pair_under};
 ghost use Rattle.inert.specs.Steps.{FitsSystem, under as inputs};
-ghost use Rattle.refine_core.specs.Signatures.{list_of, HaveSignatures, HasNewBlock, IsStrongSplitSignature};
+ghost use Rattle.refine_core.specs.Rounds.{list_of, HaveSignatures, HasNewBlock, IsStrongSplitSignature};
 
 use crate::signed_blocks::SignedBlocks;
 use crate::signing::Signing;

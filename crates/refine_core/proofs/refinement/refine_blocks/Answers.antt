@@ -6,7 +6,7 @@ use Rattle.std.proofs.Math.Nat.{suc-mul}
 use Rattle.theory.specs.Blocks.{Turns}
 use Rattle.lts.specs.Meter.{Costs, CostsUpTo}
 use Rattle.lts.specs.Lts.{system_of}
-use Rattle.refine_core.specs.IndexState.{AreAllActive, IsNextRound, AreRounds}
+use Rattle.refine_core.specs.Rounds.{AreAllActive, IsNextRound, AreRounds}
 use Rattle.partition.specs.Blocks.{RoundBlocks}
 use Rattle.partition.specs.Renumberings.{WereHalved}
 use Rattle.partition.proofs.CallerLemmas.{one_block}

@@ -4,7 +4,7 @@ use Rattle.theory.specs.Blocks.{Underway}
 use Rattle.lts.specs.Lts.{Grouped, system_of}
 use Rattle.lts.specs.Meter.{Counts, Costs}
 use Rattle.partition.specs.Renumberings.{WereHalved}
-use Rattle.refine_core.specs.IndexState.{Awaits, AreRounds}
+use Rattle.refine_core.specs.Rounds.{Awaits, AreRounds}
 use Rattle.refine_core.proofs.refinement.refine_blocks.Given as goal
 
 -- `Made` holds if a sequence of rounds has led from the partition with only one block to the partition `blocks`. Each

@@ -1,7 +1,7 @@
 use Rattle.std.proofs.Common.{◌≡◌, ◌↔◌, ℕ, ◌+◌, ◌-◌, ◌*◌, ◌≤◌, IsTrue}
 use Rattle.std.specs.Vec.{vec_len, vec_capacity}
 use Rattle.lts.specs.Meter.{Costs}
-use Rattle.refine_core.specs.Signatures.{HasNewBlock}
+use Rattle.refine_core.specs.Rounds.{HasNewBlock}
 use Rattle.refine_core.proofs.StrongSignatures.{pairs_to}
 use Rattle.refine_core.proofs.strong.read.Given as goal
 

@@ -3,7 +3,7 @@ use Rattle.lts.specs.Meter.{Costs}
 use Rattle.lts.specs.Lts.{before}
 use Rattle.lts.specs.Visited.{remaining_of}
 use Rattle.partition.specs.Blocks.{InactiveHaveNone}
-use Rattle.refine_core.specs.Signatures.{IsStrongSplitSignature}
+use Rattle.refine_core.specs.Rounds.{IsStrongSplitSignature}
 use Rattle.refine_core.proofs.StrongSignatures.{HasGot}
 use Rattle.refine_core.proofs.strong.sign_active.Given as goal
 
