@@ -1,5 +1,5 @@
--- The lemmas in this file are about blanks in front of a token, about the bytes that may follow a token, and about bytes
--- that do not occur in a line.
+-- The lemmas in this file are about blanks in front of a token, about the bytes that may follow a token, and about
+-- bytes that do not occur in a line.
 use Rattle.std.proofs.Common.{◌≡◌, ◌≢◌, ◌⊎◌, ℕ, Bool, true, false, not, List, [], ◌∷◌, ◌++◌, All, refl, sym, ap, ◌∙◌}
 use Rattle.std.proofs.Common.{append_assoc, arith}
 use Rattle.std.specs.Prelude.{◌==◌}

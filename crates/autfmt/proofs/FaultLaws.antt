@@ -10,10 +10,9 @@ use Rattle.theory.specs.System.{System, Transition, IsAmong}
 use Rattle.autfmt.specs.declared.fault.Fault.{Fault}
 use Rattle.autfmt.specs.declared.fault.Fault.TheVariants.{BadHeader, ExtraText}
 use Rattle.autfmt.specs.Bounds.{Bounds}
-use Rattle.autfmt.specs.Texts.{Lines, GoodHeader, SpellsTransition, SpellsAmong, Reads}
+use Rattle.autfmt.specs.Texts.{lines_of, Lines, GoodHeader, SpellsTransition, SpellsAmong, Reads}
 use Rattle.autfmt.specs.Faults.{HeaderFault, BeginsWell, NextFault, FirstFault}
 use Rattle.autfmt.specs.Faults.FirstFault.{no_line, header, behind}
-use Rattle.autfmt.proofs.Cutting.{Lines-unique, lines_of}
 use Rattle.autfmt.proofs.Decisions.{one_transition}
 use Rattle.autfmt.proofs.Lists.{AllZip-unique}
 use Rattle.autfmt.proofs.FirstFaults.{Stops, Divided, divided, one_front}
@@ -81,20 +80,19 @@ FaultOf bounds fault (line ∷ all) =
     ⊎ ((f m n : ℕ) × GoodHeader bounds line f m n × (lines others : List (List ℕ)) × (es : List Transition)
     × (all ≡ lines ++ others) × FaultBehind m n lines es others fault)
 
-fault_of : (bounds : Bounds) (text : List ℕ) (fault : Fault) (lines : List (List ℕ)) → Lines text lines →
-    FirstFault bounds text fault → FaultOf bounds fault lines
-fault_of bounds text fault lines l (no_line l' e) = subst (FaultOf bounds fault) (Lines-unique text [] lines l' l) e
-fault_of bounds text fault lines l (header line others l' bad) =
-    subst (FaultOf bounds fault) (Lines-unique text (line ∷ others) lines l' l) (inl bad)
-fault_of bounds text fault lines l (behind m n es others b next) =
-    subst (FaultOf bounds fault) (Lines-unique text (b.header ∷ b.lines ++ others) lines b.whole l)
+fault_of : (bounds : Bounds) (text : List ℕ) (fault : Fault) → FirstFault bounds text fault →
+    FaultOf bounds fault (lines_of text)
+fault_of bounds text fault (no_line l e) = subst (FaultOf bounds fault) (sym l) e
+fault_of bounds text fault (header line others l bad) = subst (FaultOf bounds fault) (sym l) (inl bad)
+fault_of bounds text fault (behind m n es others b next) =
+    subst (FaultOf bounds fault) (sym b.whole)
     (inr (b.first, m, n, b.good, b.lines, others, es, refl, (b.spelled, next)))
 
 -- An input has at most one first error (`FirstFault`).
 pub FirstFault-unique :
     (bounds : Bounds) (text : List ℕ) (f g : Fault) → FirstFault bounds text f → FirstFault bounds text g → f ≡ g
 FirstFault-unique bounds text f g a b =
-    let (lines, l) = lines_of text in same lines (fault_of bounds text f lines l a) (fault_of bounds text g lines l b)
+    same (lines_of text) (fault_of bounds text f a) (fault_of bounds text g b)
   where
     same : (lines : List (List ℕ)) → FaultOf bounds f lines → FaultOf bounds g lines → f ≡ g
     same [] e e' = e ∙ sym e'
@@ -115,7 +113,7 @@ one_spelled line d e a b =
 -- An input denotes at most one system.
 pub Reads-unique : (bounds : Bounds) (text : List ℕ) (A B : System) → Reads bounds text A → Reads bounds text B → A ≡ B
 Reads-unique bounds text A B a b =
-    let same = Lines-unique text (b.header ∷ b.lines) (a.header ∷ a.lines) b.whole a.whole in
+    let same = sym b.whole ∙ a.whole in
     let header : b.header ≡ a.header = cc in
     let lines : b.lines ≡ a.lines = cc in
     let good =
@@ -129,7 +127,8 @@ Reads-unique bounds text A B a b =
 -- If an input denotes a system, the input has no error (`FirstFault`).
 pub Reads-no_fault : (bounds : Bounds) (text : List ℕ) (A : System) (fault : Fault) → Reads bounds text A →
     FirstFault bounds text fault → ⊥
-Reads-no_fault bounds text A fault r first = against (fault_of bounds text fault (r.header ∷ r.lines) r.whole first)
+Reads-no_fault bounds text A fault r first =
+    against (subst (FaultOf bounds fault) r.whole (fault_of bounds text fault first))
   where
     all : List Transition
     all = A.transitions
@@ -182,7 +181,7 @@ next_judged m n found (line ∷ others) few stops =
 -- Every input denotes a system or has an error (`FirstFault`).
 pub text_judged : (bounds : Bounds) (text : List ℕ) →
     ((A : System) × Reads bounds text A) ⊎ ((fault : Fault) × FirstFault bounds text fault)
-text_judged bounds text = let (lines, l) = lines_of text in step lines l
+text_judged bounds text = step (lines_of text) refl
   where
     rest : (line : List ℕ) (all : List (List ℕ)) (f m n : ℕ) → Lines text (line ∷ all) → GoodHeader bounds line f m n →
         Divided (SpellsAmong n) m 0 all →

@@ -6,13 +6,14 @@ use Rattle.std.proofs.Common.{refl, sym, ◌∙◌, ap, subst, inl, inr, arith}
 use Rattle.std.specs.List.{AllZip}
 use Rattle.std.proofs.lemmas.Bool.{cases_lt}
 use Rattle.std.proofs.lemmas.List.{append-nil, length-append, length-replicate}
-use Rattle.std.proofs.lemmas.List.Elements.{All-append, All-replicate}
+use Rattle.std.proofs.lemmas.List.Elements.{All-nil, All-cons, All-append, All-replicate}
 use Rattle.autfmt.specs.declared.fault.Fault.{Fault}
 use Rattle.autfmt.specs.declared.fault.Fault.TheVariants.{LineTooLong}
 use Rattle.autfmt.specs.declared.line.TheConstants.{LONGEST_LINE}
-use Rattle.autfmt.specs.Texts.{Cuts, Lines, IsOneLine, IsShort, last_line}
+use Rattle.autfmt.specs.Texts.{lines_of, Lines, IsOneLine, IsShort}
+use Rattle.autfmt.specs.Cutter.{IsPart}
 use Rattle.autfmt.proofs.Lists.{All-between}
-use Rattle.autfmt.proofs.Cutting.{IsNoFeed, Lines-unique, Lines-longer}
+use Rattle.autfmt.proofs.Cutting.{IsNoFeed, only_line, Divides}
 
 -- Suppose that an input can be read or has an error, and that it has no error if it can be read. Then the input can be
 -- read if and only if it has no error.
@@ -95,40 +96,40 @@ abbrev pub HasLongLine : List ℕ → Type 0
 HasLongLine text = (front others : List (List ℕ)) × (line : List ℕ) × Lines text (front ++ line ∷ others)
     × (LONGEST_LINE < length line)
 
-short_lines : (text : List ℕ) (lines : List (List ℕ)) → Lines text lines → All IsShort lines → HasLongLine text → ⊥
-short_lines text lines l short (front, others, line, l', long) =
-    let same = Lines-unique text lines (front ++ line ∷ others) l l' in
-    grind (arith, All-between, others)
-
-short_last : (rest : List ℕ) → IsShort rest → All IsShort (last_line rest)
-short_last rest short = grind arith
-
 -- Suppose that each text has at most one first error (`First`), and that this error is `LineTooLong` only if the text
--- contains a line that is too long. Let `given` be the bytes that have been read so far, and suppose that no line of
--- `given` is too long. Suppose also that `LineTooLong k` is the first error of each text that consists of the complete
--- lines of `given` and one further line that is too long. Then the bytes `given` do not determine the first error of
--- the whole input. If further bytes make the last line too long, the first error is `LineTooLong k`. If no bytes
--- follow, there is no error or another first error.
+-- contains a line that is too long. Let `given` be the bytes that have been read so far. Suppose that these bytes
+-- consist of the lines `ended`, none of which is too long, and of the bytes `rest`, which can be a part of the next
+-- line (`IsPart`). Suppose also that `LineTooLong k` is the first error of each text that consists of the lines `ended`
+-- and one further line that is too long. Then the bytes `given` do not determine the first error of the whole input. If
+-- further bytes make the last line too long, the first error is `LineTooLong k`. If no bytes follow, there is no error
+-- or another first error.
 pub not_known :
     (First : List ℕ → Fault → Type 0) → ((text : List ℕ) (f g : Fault) → First text f → First text g → f ≡ g) →
     ((text : List ℕ) (k : ℕ) → First text (LineTooLong k) → HasLongLine text) →
-    (given : List ℕ) (ended : List (List ℕ)) (rest : List ℕ) (k : ℕ) → Cuts given ended rest →
-    All IsShort ended → IsShort rest →
+    (given : List ℕ) (ended : List (List ℕ)) (rest : List ℕ) (k : ℕ) → Divides given ended rest →
+    All IsShort ended → IsPart rest →
     ((line : List ℕ) → LONGEST_LINE < length line → (text : List ℕ) → Lines text (ended ++ line ∷ []) →
     First text (LineTooLong k)) → (fault : Fault) → ((more : List ℕ) → First (given ++ more) fault) → ⊥
-not_known First unique long given ended rest k c shorts short too_long fault known =
+not_known First unique long given ended rest k cut shorts part too_long fault known =
     against (replicate (LONGEST_LINE + 1) 0) refl
   where
+    last : (bytes : List ℕ) → IsPart bytes → All IsShort (lines_of bytes)
+    last [] p = All-nil IsShort
+    last (b ∷ bs) p = rw (only_line (b ∷ bs) p.0 (omega arith)) (All-cons IsShort (b ∷ bs) [] p.1 (All-nil IsShort))
+
     against : (more : List ℕ) → more ≡ replicate (LONGEST_LINE + 1) 0 → ⊥
     against more is =
         let zero : ℕ = 0 in
         let size : length more ≡ LONGEST_LINE + 1 = ap length is ∙ length-replicate (LONGEST_LINE + 1) zero in
         let one : IsOneLine more =
         subst IsOneLine (sym is) (All-replicate IsNoFeed (LONGEST_LINE + 1) 0 (λ e. absurd (omega arith))) in
-        let l = Lines-longer given ended rest more c one (omega arith) in
-        let bad = too_long (rest ++ more) (omega (arith, length-append rest more)) (given ++ more) l in
+        let longer = length-append rest more in
+        let l = cut more ∙ ap (λ (ls : List (List ℕ)). ended ++ ls)
+        (only_line (rest ++ more) (All-append IsNoFeed rest more part.0 one) (omega arith)) in
+        let bad = too_long (rest ++ more) (omega arith) (given ++ more) l in
         let e : fault ≡ LineTooLong k = unique (given ++ more) fault (LineTooLong k) (known more) bad in
-        let now = subst (λ (t : List ℕ). First t (LineTooLong k)) (append-nil given)
-        (subst (First (given ++ [])) e (known [])) in
-        short_lines given (ended ++ last_line rest) (ended, rest, c, refl)
-        (All-append IsShort ended (last_line rest) shorts (short_last rest short)) (long given k now)
+        let (front, others, line, l', big) = long (given ++ []) k (subst (First (given ++ [])) e (known [])) in
+        let all = rw (cut [], append-nil) at l' in
+        let short = All-between IsShort front line others
+        (subst (All IsShort) all (All-append IsShort ended (lines_of rest) shorts (last rest part))) in
+        omega arith

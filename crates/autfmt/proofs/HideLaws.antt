@@ -10,12 +10,12 @@ use Rattle.std.proofs.lemmas.Slice.Zip.{AllZip-long}
 use Rattle.autfmt.specs.declared.fault.Fault.{Fault}
 use Rattle.autfmt.specs.declared.fault.Fault.TheVariants.{LineTooLong, BadHide, TooManyHidden}
 use Rattle.autfmt.specs.Grammar.{HideLine}
-use Rattle.autfmt.specs.Texts.{Cuts, Lines, IsShort}
+use Rattle.autfmt.specs.Texts.{lines_of, Lines, IsShort}
+use Rattle.autfmt.specs.Cutter.{IsPart}
 use Rattle.autfmt.specs.HideLists.{Hides, HideReads, HideFault, FirstHideFault, JudgedHideFault}
 use Rattle.autfmt.proofs.Lists.{AllZip-firsts, AllZip-unique}
-use Rattle.autfmt.proofs.LongerTexts.{ended_go_on, line_grows}
 use Rattle.autfmt.proofs.FirstFaults.{Stops, Divided, divided, one_front, HasLongLine, not_known}
-use Rattle.autfmt.proofs.Cutting.{Lines-unique, lines_of}
+use Rattle.autfmt.proofs.Cutting.{Divides, Divides-end, ended_go_on, line_grows}
 use Rattle.autfmt.specs.Reading.{hide_line_at}
 use Rattle.autfmt.proofs.Lines.{hide_line_at-takes, hide_line_at-again}
 use Rattle.autfmt.proofs.Decisions.{one_hide_line, decide_hide_line, unread}
@@ -79,7 +79,7 @@ hide_stops lines labels line others fault named bad less a good = grind (arith, 
 -- A text that is read as a hide list (a file with one label to hide on each line) has at most one first error.
 pub FirstHideFault-unique : (text : List ℕ) (f g : Fault) → FirstHideFault text f → FirstHideFault text g → f ≡ g
 FirstHideFault-unique text f g a b =
-    let whole = Lines-unique text (a.lines ++ a.line ∷ a.others) (b.lines ++ b.line ∷ b.others) a.whole b.whole in
+    let whole = sym a.whole ∙ b.whole in
     let m = AllZip-long Hides a.lines a.labels a.named in
     let n = AllZip-long Hides b.lines b.labels b.named in
     let few = a.few in
@@ -94,7 +94,7 @@ FirstHideFault-unique text f g a b =
 -- A text can be read as a hide list (a file with one label to hide on each line) in at most one way.
 pub HideReads-unique : (text : List ℕ) (H H' : List (List ℕ)) → HideReads text H → HideReads text H' → H ≡ H'
 HideReads-unique text H H' a b =
-    let same = Lines-unique text b.0 a.0 b.1 a.1 in
+    let same = sym b.1 ∙ a.1 in
     AllZip-unique Hides (λ line x y h k. one_hide_line line x y h.1 k.1) a.0 H H' a.3
     (subst (λ (lines : List (List ℕ)). AllZip Hides lines H') same b.3)
 
@@ -103,7 +103,7 @@ HideReads-unique text H H' a b =
 pub HideReads-no_fault : (text : List ℕ) (H : List (List ℕ)) (fault : Fault) → HideReads text H →
     FirstHideFault text fault → ⊥
 HideReads-no_fault text H fault (lines, l, few, named) f =
-    let whole = Lines-unique text lines (f.lines ++ f.line ∷ f.others) l f.whole in
+    let whole = sym l ∙ f.whole in
     let m = AllZip-long Hides lines H named in
     let n = AllZip-long Hides f.lines f.labels f.named in
     let same =
@@ -116,8 +116,7 @@ HideReads-no_fault text H fault (lines, l, few, named) f =
 -- (`FirstHideFault`).
 pub hide_text_judged : (text : List ℕ) → ((H : List (List ℕ)) × HideReads text H)
     ⊎ ((fault : Fault) × FirstHideFault text fault)
-hide_text_judged text = let (all, l) = lines_of text in
-    judged all l (divided Hides MOST_LINES decide 0 all (omega arith))
+hide_text_judged text = judged (lines_of text) refl (divided Hides MOST_LINES decide 0 (lines_of text) (omega arith))
   where
     decide : (line : List ℕ) → ((a : List ℕ) × Hides line a) ⊎ ((a : List ℕ) → ¬ Hides line a)
     decide line =
@@ -183,16 +182,14 @@ module _ (given more : List ℕ) where
 
   -- Suppose that a text ends with a line feed, and has a first error as a hide list (a file with one label to hide on
   -- each line). Then this error remains the first error if further bytes are appended to the text.
-  pub ended_hide_stays : (ended : List (List ℕ)) (fault : Fault) → Cuts given ended [] → FirstHideFault given fault →
+  pub ended_hide_stays : (front : List ℕ) (fault : Fault) → given ≡ front ++ 10 ∷ [] → FirstHideFault given fault →
       FirstHideFault (given ++ more) fault
-  ended_hide_stays ended fault c f = record {
+  ended_hide_stays front fault is f = record {
     lines = f.lines;
     line = f.line;
-    others = f.others ++ (lines_of more).0;
-    whole =
-        subst (λ (ls : List (List ℕ)). Lines (given ++ more) ls) (append_assoc f.lines (f.line ∷ f.others)
-        (lines_of more).0)
-        (ended_go_on given more ended (f.lines ++ f.line ∷ f.others) c f.whole);
+    others = f.others ++ lines_of more;
+    whole = rw (is, append_assoc) (ended_go_on front more ∙ rw (← is, f.whole) (append_assoc f.lines (f.line ∷ f.others)
+        (lines_of more)));
     labels = f.labels;
     named = f.named;
     few = f.few;
@@ -200,30 +197,28 @@ module _ (given more : List ℕ) where
   }
 
 -- Suppose that the bytes that have been read so far are correct lines of a hide list (a file with one label to hide on
--- each line), followed by at most 8192 bytes (`LONGEST_LINE`) of the next line. Suppose also that further lines are
--- allowed, or that there are no bytes of the next line. Then the first error of the whole hide list still depends on
--- the bytes that may follow. If further lines are allowed, the next line may still become too long. Otherwise, the list
--- has no error if it ends here.
+-- each line), followed by the bytes `rest`, which can be a part of the next line (`IsPart`). Suppose also that further
+-- lines are allowed, or that there are no bytes of the next line. Then the first error of the whole hide list still
+-- depends on the bytes that may follow. If further lines are allowed, the next line may still become too long.
+-- Otherwise, the list has no error if it ends here.
 pub no_judged_hide_fault :
     (given : List ℕ) (lines : List (List ℕ)) (rest : List ℕ) (H : List (List ℕ)) (fault : Fault) →
-    Cuts given lines rest → AllZip Hides lines H → length lines ≤ MOST_LINES → length rest ≤ LONGEST_LINE →
+    Divides given lines rest → AllZip Hides lines H → length lines ≤ MOST_LINES → IsPart rest →
     (length lines < MOST_LINES) ⊎ (length rest ≡ 0) → JudgedHideFault given fault → ⊥
-no_judged_hide_fault given lines rest H fault c good few short unjudged known =
+no_judged_hide_fault given lines rest H fault divides good few part unjudged known =
     step (cases_lt (length lines) MOST_LINES)
   where
     too_long : length lines < MOST_LINES → (long : List ℕ) → LONGEST_LINE < length long → (text : List ℕ) →
         Lines text (lines ++ long ∷ []) → FirstHideFault text (LineTooLong (length lines + 1))
     too_long less next big text l = grind arith
 
-    at_end : (r : List ℕ) → length r ≡ 0 → Cuts given lines r → ⊥
-    at_end (b ∷ bs) none c' = absurd (omega arith)
-    at_end [] none c' =
-        let l = subst (λ (ls : List (List ℕ)). Lines given ls) (append-nil lines) (lines, [], c', refl) in
-        HideReads-no_fault given H fault (lines, l, few, good)
-        (subst (λ (t : List ℕ). FirstHideFault t fault) (append-nil given) (known []))
+    at_end : length rest ≡ 0 → ⊥
+    at_end none =
+        let l = Divides-end given lines rest divides none in
+        HideReads-no_fault (given ++ []) H fault (lines, l, few, good) (known [])
 
     step : (length lines < MOST_LINES) ⊎ (MOST_LINES ≤ length lines) → ⊥
     step (inl less) =
-        not_known FirstHideFault FirstHideFault-unique long_hide_line given lines rest (length lines + 1) c
-        (AllZip-firsts Hides IsShort (λ l a names. names.0) lines H good) short (too_long less) fault known
-    step (inr full) = ⊎_elim (λ less. omega arith) (λ none. at_end rest none c) unjudged
+        not_known FirstHideFault FirstHideFault-unique long_hide_line given lines rest (length lines + 1) divides
+        (AllZip-firsts Hides IsShort (λ l a names. names.0) lines H good) part (too_long less) fault known
+    step (inr full) = ⊎_elim (λ less. omega arith) at_end unjudged

@@ -1,7 +1,7 @@
 -- The lemmas in this file are about the steps in which a hide list (the labels to hide, one on each line) is read. The
 -- lemmas describe the state of the reader after each step, and justify each error that the reader returns.
 use Rattle.std.proofs.Common.{◌≡◌, ◌⊎◌, ◌↔◌, ⊎_elim, ℕ, ◌+◌, ◌<◌, ◌≤◌, true, List, [], ◌∷◌, ◌++◌, length, Option, Some}
-use Rattle.std.proofs.Common.{Contains, refl, sym, inl, inr, arith}
+use Rattle.std.proofs.Common.{Contains, refl, sym, ◌∙◌, inl, inr, arith}
 use Rattle.std.proofs.lemmas.Slice.Zip.{AllZip-long, all_zipped_more}
 use Rattle.std.proofs.lemmas.List.{append_assoc}
 use Rattle.std.proofs.lemmas.List.Elements.{All-nil, Contains-append_left, Contains-push, Contains-push_cases}
@@ -9,7 +9,7 @@ use Rattle.std.specs.Io.KnownBytes.{IsAtEnd}
 use Rattle.lts.specs.Labels.{Interns}
 use Rattle.autfmt.specs.declared.fault.Fault.{Fault}
 use Rattle.autfmt.specs.declared.fault.Fault.TheVariants.{LineTooLong, TooManyHidden, Device}
-use Rattle.autfmt.specs.Texts.{Lines}
+use Rattle.autfmt.specs.Texts.{lines_of, Lines}
 use Rattle.autfmt.specs.HideLists.{Hides, HideFault}
 use Rattle.autfmt.specs.Cutter.{Cutting, CutsLine, BeginsTooLong, IsPart}
 use Rattle.autfmt.specs.HideReaders.{IsHideFault, SameLabels, HidesAs}
@@ -17,7 +17,7 @@ use Rattle.autfmt.specs.HideReadSoFar.{HideReadSoFar}
 use Rattle.autfmt.specs.HideOutcomes.{HideRefuses}
 use Rattle.autfmt.specs.HideOutcomes.HideRefuses.{failed_source, faulty_text}
 use Rattle.autfmt.proofs.HideLaws.{no_judged_hide_fault}
-use Rattle.autfmt.proofs.HasCut.{HasCut-line, HasCut-lines, HasCut-too_long, HasCut-end, HasCut-more, HasCut-part}
+use Rattle.autfmt.proofs.HasCut.{HasCut-line, HasCut-too_long, HasCut-end, HasCut-more, HasCut-part}
 use Rattle.autfmt.proofs.ReaderSteps.{if_told, none_to_come, fresh}
 use Rattle.autfmt.specs.declared.limits.TheConstants.{MOST_LINES}
 
@@ -74,9 +74,9 @@ module _ {given : List ℕ} {old : Cutting} {H hidden : List (List ℕ)} (got : 
       (length H < MOST_LINES) ⊎ (length (old.ahead ++ got) ≡ 0) → failures ≡ 1 → (old.over ≡ true → ⊥) →
       IsPart (old.ahead ++ got) → HideRefuses (given ++ got) rest failures Device
   hide_failed rest failures few unjudged failed goes_on part =
-      let c = HasCut-part given got so_far.lines old so_far.cut goes_on part.0 in
+      let c = HasCut-part given got so_far.lines old so_far.cut goes_on in
       failed_source failed refl (λ f. no_judged_hide_fault (given ++ got) so_far.lines (old.ahead ++ got) H f c
-      so_far.named (omega (arith, as_many)) part.1 (rw as_many at unjudged))
+      so_far.named (omega (arith, as_many)) part (rw as_many at unjudged))
 
   -- Suppose that the source (the object from which the hide list is read) fails after the last line that is allowed.
   -- Then the reader may return `Device`, which is the error of a failed source. The contract allows this error only if
@@ -136,7 +136,6 @@ module _ {given : List ℕ} {old : Cutting} {H hidden : List (List ℕ)} (got : 
     hide_faulty now fault few goes_on end cuts bad kind =
         refused_behind fault kind (omega arith) (λ more told.
         let s = HasCut-line given got so_far.lines old so_far.cut goes_on now cuts in
-        let (others, l) =
-        HasCut-lines (given ++ got) more (so_far.lines ++ now.line ∷ []) now s
-        (λ over. none_to_come rest more told (end over)) in
-        (now.line, others, rw (append_assoc so_far.lines (now.line ∷ []) others) at l, bad))
+        let l = s more (λ over. none_to_come rest more told (end over)) in
+        let others = lines_of (now.ahead ++ more) in
+        (now.line, others, l ∙ append_assoc so_far.lines (now.line ∷ []) others, bad))

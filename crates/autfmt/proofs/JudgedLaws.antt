@@ -1,23 +1,22 @@
 -- The bytes at the beginning of an input may already show which error is the first error of the input, so that this
 -- error does not depend on the bytes that follow. This file proves for which bytes the first error is known in this
 -- way, and for which bytes the first error still depends on the bytes that follow.
-use Rattle.std.proofs.Common.{◌≡◌, ◌⊎◌, ⊎_elim, ℕ, ◌+◌, ◌<◌, ◌≤◌, List, [], ◌∷◌, ◌++◌, length, refl, subst, inl, inr}
-use Rattle.std.proofs.Common.{sym, arith, All, rules}
+use Rattle.std.proofs.Common.{◌≡◌, ◌⊎◌, ⊎_elim, ℕ, ◌+◌, ◌<◌, ◌≤◌, List, [], ◌∷◌, ◌++◌, length, refl, inl, inr}
+use Rattle.std.proofs.Common.{arith, All, rules}
 use Rattle.std.specs.List.{AllZip}
 use Rattle.std.proofs.lemmas.Bool.{cases_lt}
-use Rattle.std.proofs.lemmas.List.{append_assoc, append-nil, length-append}
+use Rattle.std.proofs.lemmas.List.{append_assoc, length-append}
 use Rattle.std.proofs.lemmas.List.Elements.{All-nil, All-cons}
 use Rattle.theory.specs.System.{Transition}
 use Rattle.autfmt.specs.declared.fault.Fault.{Fault}
 use Rattle.autfmt.specs.declared.fault.Fault.TheVariants.{LineTooLong, MissingEdges, ExtraText}
 use Rattle.autfmt.specs.Bounds.{Bounds}
-use Rattle.autfmt.specs.Texts.{Cuts, Lines, IsShort, GoodHeader, SpellsAmong}
+use Rattle.autfmt.specs.Texts.{lines_of, Lines, IsShort, GoodHeader, SpellsAmong}
 use Rattle.autfmt.specs.Cutter.{IsPart}
-use Rattle.autfmt.proofs.Cutting.{Lines-unique, lines_of}
+use Rattle.autfmt.proofs.Cutting.{Divides, Divides-end, ended_go_on, line_grows, some_line}
 use Rattle.autfmt.specs.Faults.{HeaderFault, EdgeFault, BeginsWell, FirstFault, JudgedFault}
 use Rattle.autfmt.specs.Faults.FirstFault.{no_line, header, behind}
 use Rattle.autfmt.proofs.Lists.{AllZip-firsts}
-use Rattle.autfmt.proofs.LongerTexts.{ended_go_on, line_grows}
 use Rattle.autfmt.proofs.FirstFaults.{HasLongLine, not_known}
 use Rattle.autfmt.proofs.FaultLaws.{FirstFault-unique, Reads-from_lines, Reads-no_fault}
 use Rattle.autfmt.specs.declared.line.TheConstants.{LONGEST_LINE}
@@ -42,20 +41,20 @@ pub no_judged_header : (bounds : Bounds) (given : List ℕ) (fault : Fault) → 
     JudgedFault bounds given fault → ⊥
 no_judged_header bounds given fault part known =
     not_known (FirstFault bounds) (FirstFault-unique bounds) (long_line bounds) given [] given 1
-    (record { whole = refl; lines = All-nil _; one = part.0 }) (All-nil IsShort) part.1
+    (λ more. refl) (All-nil IsShort) part
     (λ line long text l. header line [] l (HeaderFault.too_long refl long)) fault known
 
 -- Suppose that the bytes that have been read so far are a correct header, correct transitions on whole lines, and then
--- at most 8192 bytes (`LONGEST_LINE`) of the next line. Suppose also that the header declares further transitions, or
--- that there are no bytes of the next line. Then the first error of the whole input still depends on the bytes that may
--- follow. If the header declares further transitions, the next line may still become too long. Otherwise, the input has
--- no error if it ends here.
+-- the bytes `rest`, which can be a part of the next line (`IsPart`). Suppose also that the header declares further
+-- transitions, or that there are no bytes of the next line. Then the first error of the whole input still depends on
+-- the bytes that may follow. If the header declares further transitions, the next line may still become too long.
+-- Otherwise, the input has no error if it ends here.
 pub no_judged_fault :
     (bounds : Bounds) (given line : List ℕ) (lines : List (List ℕ)) (rest : List ℕ) (f m n : ℕ) (es : List Transition)
     (fault : Fault) →
-    Cuts given (line ∷ lines) rest → GoodHeader bounds line f m n → AllZip (SpellsAmong n) lines es → length es ≤ m →
-    length rest ≤ LONGEST_LINE → (length es < m) ⊎ (length rest ≡ 0) → JudgedFault bounds given fault → ⊥
-no_judged_fault bounds given line lines rest f m n es fault c good edges few short unjudged known =
+    Divides given (line ∷ lines) rest → GoodHeader bounds line f m n → AllZip (SpellsAmong n) lines es →
+    length es ≤ m → IsPart rest → (length es < m) ⊎ (length rest ≡ 0) → JudgedFault bounds given fault → ⊥
+no_judged_fault bounds given line lines rest f m n es fault divides good edges few part unjudged known =
     step (cases_lt (length es) m)
   where
     shorts : All IsShort (line ∷ lines)
@@ -69,20 +68,17 @@ no_judged_fault bounds given line lines rest f m n es fault c good edges few sho
         let b : BeginsWell bounds text m n es (long ∷ []) = search rules in
         behind m n es (long ∷ []) b (inl (less, EdgeFault.too_long refl big))
 
-    at_end : (r : List ℕ) → length r ≡ 0 → Cuts given (line ∷ lines) r → length es ≡ m → ⊥
-    at_end (b ∷ bs) none c' full = absurd (omega arith)
-    at_end [] none c' full =
-        let l : Lines given (line ∷ lines) = (line ∷ lines, [], c', sym (append-nil (line ∷ lines))) in
-        let read = Reads-from_lines bounds given line lines f m n es l good edges full in
-        Reads-no_fault bounds given (record { first = f; states = n; transitions = es }) fault read
-        (subst (λ (t : List ℕ). FirstFault bounds t fault) (append-nil given) (known []))
+    at_end : length es ≡ m → length rest ≡ 0 → ⊥
+    at_end full none =
+        let l = Divides-end given (line ∷ lines) rest divides none in
+        let read = Reads-from_lines bounds (given ++ []) line lines f m n es l good edges full in
+        Reads-no_fault bounds (given ++ []) (record { first = f; states = n; transitions = es }) fault read (known [])
 
     step : (length es < m) ⊎ (m ≤ length es) → ⊥
     step (inl less) =
         not_known (FirstFault bounds) (FirstFault-unique bounds) (long_line bounds) given (line ∷ lines) rest
-        (length es + 2) c shorts short
-        (too_long less) fault known
-    step (inr full) = ⊎_elim (λ less. omega arith) (λ none. at_end rest none c (omega arith)) unjudged
+        (length es + 2) divides shorts part (too_long less) fault known
+    step (inr full) = ⊎_elim (λ less. omega arith) (at_end (omega arith)) unjudged
 
 module _ (bounds : Bounds) (given more : List ℕ) where
   -- Suppose that an input consists of correct lines, a next line, and other lines. If further bytes are appended to the
@@ -128,23 +124,23 @@ module _ (bounds : Bounds) (given more : List ℕ) where
 -- Suppose that the bytes that have been read so far end with a line feed. Suppose also that an input that consists of
 -- exactly these bytes has an error, and that its first error is not `MissingEdges` (transitions are missing). Then this
 -- error is the first error of the whole input, whatever bytes follow.
-pub ended_known : (bounds : Bounds) (given : List ℕ) (ended : List (List ℕ)) (fault : Fault) → Cuts given ended [] →
-    FirstFault bounds given fault →
-    (ended ≡ [] → ⊥) → ((found : ℕ) → fault ≡ MissingEdges found → ⊥) → JudgedFault bounds given fault
-ended_known bounds given ended fault c first some found more = step first
+pub ended_known : (bounds : Bounds) (front : List ℕ) (fault : Fault) → FirstFault bounds (front ++ 10 ∷ []) fault →
+    ((found : ℕ) → fault ≡ MissingEdges found → ⊥) → JudgedFault bounds (front ++ 10 ∷ []) fault
+ended_known bounds front fault first found more = step first
   where
-    tail : List (List ℕ)
-    tail = (lines_of more).0
+    go_on : (lines : List (List ℕ)) → Lines (front ++ 10 ∷ []) lines →
+        Lines ((front ++ 10 ∷ []) ++ more) (lines ++ lines_of more)
+    go_on lines l = rw (append_assoc, ← l) (ended_go_on front more)
 
-    step : FirstFault bounds given fault → FirstFault bounds (given ++ more) fault
+    step : FirstFault bounds (front ++ 10 ∷ []) fault → FirstFault bounds ((front ++ 10 ∷ []) ++ more) fault
     step (no_line l e) =
-        let all = subst (λ (ls : List (List ℕ)). Lines given ls) (append-nil ended) (ended, [], c, refl) in
-        absurd (some (Lines-unique given ended [] all l))
-    step (header line others l bad) =
-        header line (others ++ tail) (ended_go_on given more ended (line ∷ others) c l) bad
+        let (line, others, some) = some_line (front ++ 10 ∷ []) (omega (arith, length-append front (10 ∷ []))) in
+        absurd cc
+    step (header line others l bad) = header line (others ++ lines_of more) (go_on (line ∷ others) l) bad
     step (behind m n es [] b next) = absurd (found (length es) next.1)
     step (behind m n es (line ∷ others) b next) =
-        let l = rw (append_assoc b.lines (line ∷ others) tail) at
-        (ended_go_on given more ended (b.header ∷ b.lines ++ line ∷ others) c b.whole) in
-        let b' : BeginsWell bounds (given ++ more) m n es (line ∷ (others ++ tail)) = search rules in
-        behind m n es (line ∷ (others ++ tail)) b' next
+        let l = rw (append_assoc b.lines (line ∷ others) (lines_of more)) at
+        (go_on (b.header ∷ b.lines ++ line ∷ others) b.whole) in
+        let b' : BeginsWell bounds ((front ++ 10 ∷ []) ++ more) m n es (line ∷ (others ++ lines_of more)) =
+        search rules in
+        behind m n es (line ∷ (others ++ lines_of more)) b' next

@@ -1,5 +1,4 @@
 pub mod Lists
-pub mod LongerTexts
 pub mod Blanks
 pub mod Numbers
 pub mod QuotedLabels

@@ -1,22 +1,22 @@
 -- The text that is written for a system can be read again. The result is the same system, with its transitions in the
 -- order in which they are written.
-use Rattle.std.proofs.Common.{◌≡◌, ◌≢◌, ℕ, rules, ◌+◌, ◌<◌, ◌≤◌, ◌^◌, List, [], ◌∷◌, ◌++◌, length, map, codes, decimal}
-use Rattle.std.proofs.Common.{refl, sym, subst, inl, arith, append_assoc, length-append}
+use Rattle.std.proofs.Common.{◌≡◌, ℕ, rules, ◌+◌, ◌<◌, ◌≤◌, ◌^◌, List, [], ◌∷◌, ◌++◌, length, map, codes, decimal}
+use Rattle.std.proofs.Common.{All, refl, ap, ◌∙◌, subst, inl, arith, append_assoc, length-append}
 use Rattle.std.proofs.lemmas.Grind.{common_steps}
 use Rattle.std.specs.List.{AllZip, AllByRecursion, flat_map}
 use Rattle.std.proofs.lemmas.Fmt.{length-decimal-le}
 use Rattle.std.proofs.lemmas.List.{append-nil}
-use Rattle.std.proofs.lemmas.List.Elements.{All-nil, All-cons, All-from_recursion, recursion_from_All}
+use Rattle.std.proofs.lemmas.List.Elements.{All-nil, All-head, All-tail, All-from_recursion, recursion_from_All}
 use Rattle.std.proofs.lemmas.List.Sorted.{All-permutation, IsPermutation-sym, length_permutation}
 use Rattle.theory.specs.System.{System, Transition, IsSystem, IsAmong, IsLabel}
 use Rattle.autfmt.specs.Bounds.{Bounds, IsWithinFile}
 use Rattle.autfmt.proofs.Blanks.{IsBlank}
+use Rattle.autfmt.proofs.Cutting.{lines_of-feed}
 use Rattle.autfmt.proofs.Labels.{IsLabel-spelled}
 use Rattle.autfmt.proofs.Lines.{Header-one, TransitionLine-one}
 use Rattle.autfmt.proofs.Lists.{AllZip-firsts}
 use Rattle.autfmt.specs.Grammar.{Blanks, Spaced, Label, Header}
-use Rattle.autfmt.specs.Texts.{Lines, IsOneLine, IsShort, SpellsTransition, Reads}
-use Rattle.autfmt.specs.Cutter.{with_line_feeds}
+use Rattle.autfmt.specs.Texts.{lines_of, Lines, IsOneLine, IsShort, SpellsTransition, Reads}
 use Rattle.autfmt.specs.Written.{written_label, header_of, written_transition, listed, IsInWrittenOrder}
 
 abbrev header_line : System → List ℕ
@@ -127,14 +127,21 @@ line_and_feed e = search (rules, codes, decimal, e.source, e.label, append_assoc
 header_and_feed : (A : System) → header_of A.first (length A.transitions) A.states ≡ header_line A ++ 10 ∷ []
 header_and_feed A = simp append_assoc
 
-fed : (es : List Transition) → flat_map written_transition es ≡ with_line_feeds (map transition_line es)
-fed [] = refl
-fed (e ∷ es) = search (rules, line_and_feed, (fed es))
+-- If the written form of a line is put in front of a text, then this line is put in front of the lines of the text.
+written_first : (written line others : List ℕ) → written ≡ line ++ 10 ∷ [] → IsOneLine line →
+    lines_of (written ++ others) ≡ line ∷ lines_of others
+written_first written line others e one =
+    ap (λ (t : List ℕ). lines_of (t ++ others)) e ∙ ap lines_of (append_assoc line (10 ∷ []) others)
+    ∙ lines_of-feed line others one
 
--- The text that is written for a system consists of the header and the lines of its transitions, each followed by a
--- line feed.
-listed_lines : (B : System) → listed B ≡ with_line_feeds (header_line B ∷ map transition_line B.transitions) ++ []
-listed_lines B = search (rules, header_and_feed, fed, append-nil)
+-- The lines of the bytes that are written for a list of transitions are the lines of the transitions.
+written_lines : (es : List Transition) → All IsOneLine (map transition_line es) →
+    lines_of (flat_map written_transition es) ≡ map transition_line es
+written_lines [] one = refl
+written_lines (e ∷ es) one =
+    let (line, others) : List ℕ × List (List ℕ) = (transition_line e, map transition_line es) in
+    written_first (written_transition e) line _ (line_and_feed e) (All-head IsOneLine line others one)
+    ∙ ap (λ (ls : List (List ℕ)). line ∷ ls) (written_lines es (All-tail IsOneLine line others one))
 
 -- `IsSmall B` holds if the first state, the number of transitions and the number of states of the system B have at most
 -- ten digits.
@@ -152,11 +159,10 @@ listed_whole : (B : System) → Header (header_line B) B.first (length B.transit
     AllZip SpellsTransition (map transition_line B.transitions) B.transitions →
     Lines (listed B) (header_line B ∷ map transition_line B.transitions)
 listed_whole B header spelled =
-    let all = header_line B ∷ map transition_line B.transitions in
     let lines = AllZip-firsts SpellsTransition IsOneLine
     (λ line e s. TransitionLine-one line e.source e.label e.target s.1) _ B.transitions spelled in
-    let each = All-cons IsOneLine _ _ (Header-one _ _ _ _ header) lines in
-    (all, [], record { whole = listed_lines B; lines = each; one = All-nil (λ b. b ≢ 10) }, sym (append-nil all))
+    written_first (header_of B.first (length B.transitions) B.states) (header_line B) _ (header_and_feed B)
+    (Header-one _ _ _ _ header) ∙ ap (λ (ls : List (List ℕ)). header_line B ∷ ls) (written_lines B.transitions lines)
 
 -- Suppose that a well-formed system is within the limits `bounds`, and that `bounds` does not exceed the limits for
 -- files. Then the header of the system, followed by the lines of its transitions in the order of the system (`listed`),

@@ -1,5 +1,6 @@
 -- The lemmas in this file are about the result of reading a system, which is the system or an error.
-use Rattle.std.proofs.Common.{◌≡◌, ℕ, List, length, Option, IfSome, Result, IfErr, ◌∙◌, ap, arith, rules}
+use Rattle.std.proofs.Common.{◌≡◌, ℕ, List, length, Option, Some, None, IfSome, Result, Ok, Err, IfErr, sym, ◌∙◌, ap}
+use Rattle.std.proofs.Common.{subst, arith, rules}
 use Rattle.std.proofs.lemmas.List.Sorted.{length_permutation, Contains-permutation}
 use Rattle.std.specs.Io.KnownBytes.{IsAtEnd}
 use Rattle.lts.specs.Lts.{Grouped, IsBuilt}
@@ -9,7 +10,8 @@ use Rattle.autfmt.specs.declared.held.Held.{Held}
 use Rattle.autfmt.specs.Bounds.{Bounds}
 use Rattle.autfmt.specs.Faults.{FirstFault}
 use Rattle.autfmt.specs.Readers.{IsTextFault}
-use Rattle.autfmt.specs.Outcomes.{ReadsTo, AnswersRead}
+use Rattle.autfmt.specs.Outcomes.{ReadsTo, Refuses, AnswersRead}
+use Rattle.autfmt.specs.Outcomes.Refuses.{faulty_text, failed_source, no_memory}
 use Rattle.autfmt.specs.ReadSoFar.{HoldsText}
 use Rattle.autfmt.proofs.Holding.{Holds-length}
 
@@ -19,7 +21,15 @@ pub told_fault :
     (bounds : Bounds) (H : List (List ℕ)) (old new : Option (List ℕ)) (failures : ℕ) (result : Result Grouped Fault) →
     AnswersRead bounds H old new failures result →
     IfSome old (λ text. IfErr result (λ f. IsTextFault f → FirstFault bounds text f))
-told_fault bounds H old new failures result answer = grind arith
+told_fault bounds H None new failures result answer = tt
+told_fault bounds H (Some text) None failures result answer = absurd answer.took
+told_fault bounds H (Some text) (Some more) failures (Ok s) answer = tt
+told_fault bounds H (Some text) (Some more) failures (Err f) answer = step answer.outcome
+  where
+    step : Refuses bounds answer.given (Some more) failures f → IsTextFault f → FirstFault bounds text f
+    step (faulty_text sound is first) kind = subst (λ (t : List ℕ). FirstFault bounds t f) (sym answer.took) first
+    step (failed_source failed e none) kind = absurd (subst IsTextFault e kind)
+    step (no_memory sound e good) kind = absurd (subst IsTextFault e kind)
 
 -- Assume that the bytes `got` were read and stored as triples, and that the system s was built from these triples.
 module _ (bounds : Bounds) (H : List (List ℕ)) (got : List ℕ) (p : Promise) (held : Held) (s : Grouped)

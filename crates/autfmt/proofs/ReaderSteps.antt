@@ -14,7 +14,7 @@ use Rattle.autfmt.specs.declared.held.Held.{Held}
 use Rattle.autfmt.specs.declared.judge.Promise.{Promise}
 use Rattle.autfmt.specs.Bounds.{Bounds}
 use Rattle.autfmt.specs.Grammar.{TransitionLine}
-use Rattle.autfmt.specs.Texts.{Lines, GoodHeader, Reads}
+use Rattle.autfmt.specs.Texts.{lines_of, Lines, GoodHeader, Reads}
 use Rattle.autfmt.specs.Faults.{HeaderFault, EdgeFault, NextFault, FirstFault}
 use Rattle.autfmt.specs.Faults.FirstFault.{header, behind}
 use Rattle.autfmt.specs.Cutter.{Cutting, HasCut, CutsLine, CutsEnd, BeginsTooLong, IsPart}
@@ -26,15 +26,14 @@ use Rattle.autfmt.specs.Outcomes.Refuses.{no_memory, failed_source, faulty_text}
 use Rattle.autfmt.proofs.FaultLaws.{Reads-from_lines}
 use Rattle.autfmt.proofs.JudgedLaws.{no_judged_header, no_judged_fault}
 use Rattle.autfmt.proofs.Holding.{Holds-length}
-use Rattle.autfmt.proofs.HasCut.{HasCut-new, HasCut-line, HasCut-lines, HasCut-too_long, HasCut-end, HasCut-more}
-use Rattle.autfmt.proofs.HasCut.{HasCut-part}
+use Rattle.autfmt.proofs.HasCut.{HasCut-line, HasCut-too_long, HasCut-end, HasCut-more, HasCut-part}
 
 -- `fresh` is the state of a line splitter (`Cutter`) that has not taken any bytes.
 abbrev pub fresh : Cutting
 fresh = record { line = []; ahead = []; over = false }
 
-pub HasCut-fresh : (old : Cutting) → old ≡ fresh → HasCut [] [] old
-HasCut-fresh old e = subst (λ (c : Cutting). HasCut [] [] c) (sym e) HasCut-new
+HasCut-fresh : (old : Cutting) → old ≡ fresh → HasCut [] [] old
+HasCut-fresh old e more end = rw e refl
 
 pub fresh_goes_on : (old : Cutting) → old ≡ fresh → old.over ≡ true → ⊥
 fresh_goes_on old e over = let f = ap (λ (c : Cutting). c.over) e in cc
@@ -100,8 +99,8 @@ module _ (bounds : Bounds) (old : Cutting) (got : List ℕ) (rest : Option (List
       (if_told rest (λ more. FirstFault bounds (got ++ more) fault)
       (λ more told.
       let s = HasCut-line [] got [] old (HasCut-fresh old new) (fresh_goes_on old new) now cuts in
-      let (others, l) = HasCut-lines got more (now.line ∷ []) now s (λ over. none_to_come rest more told (end over)) in
-      header now.line others l bad))
+      let l = s more (λ over. none_to_come rest more told (end over)) in
+      header now.line (lines_of (now.ahead ++ more)) l bad))
 
 -- Suppose that a correct header has been read, that any number of lines has been read after it, and that an allocation
 -- then fails. Then the reader may return `Memory`.
@@ -113,8 +112,8 @@ no_memory_behind bounds given first lines at f m n rest failures cut good sound 
     no_memory sound refl
     (if_told rest (λ more. HasGoodHeader bounds (given ++ more))
     (λ more told.
-    let (others, l) = HasCut-lines given more (first ∷ lines) at cut (λ over. none_to_come rest more told (end over)) in
-    (first, lines ++ others, f, m, n, l, good)))
+    let l = cut more (λ over. none_to_come rest more told (end over)) in
+    (first, lines ++ lines_of (at.ahead ++ more), f, m, n, l, good)))
 
 -- Assume that the reader has read some lines, and then reads the bytes `got` from its source (the object from which the
 -- input is read).
@@ -141,11 +140,11 @@ module _ {bounds : Bounds} {given : List ℕ} {old : Cutting} {p : Promise} {es 
       (length es < p.transitions) ⊎ (length (old.ahead ++ got) ≡ 0) → failures ≡ 1 → (old.over ≡ true → ⊥) →
       IsPart (old.ahead ++ got) → Refuses bounds (given ++ got) rest failures Device
   transition_failed rest failures few unjudged failed goes_on part =
-      let c = HasCut-part given got before old so_far.cut goes_on part.0 in
+      let c = HasCut-part given got before old so_far.cut goes_on in
       failed_source failed refl
       (λ f. no_judged_fault bounds (given ++ got) so_far.header so_far.lines (old.ahead ++ got) p.first
       p.transitions p.states es f
-      c so_far.good so_far.spelled few part.1 unjudged)
+      c so_far.good so_far.spelled few part unjudged)
 
   -- Suppose that the source (the object from which the input is read) fails after the last transition that the header
   -- declares. Then the reader may return `Device`, which is the error of a failed source. The contract allows this
@@ -227,10 +226,9 @@ module _ {bounds : Bounds} {given : List ℕ} {old : Cutting} {p : Promise} {es 
     transition_faulty now fault promised goes_on end cuts bad kind =
         refused_behind fault kind (λ more told.
         let s = HasCut-line given got before old so_far.cut goes_on now cuts in
-        let (others, l) =
-        HasCut-lines (given ++ got) more (before ++ now.line ∷ []) now s
-        (λ over. none_to_come rest more told (end over)) in
-        (now.line ∷ others, rw (append_assoc before (now.line ∷ []) others) at l, inl (promised, bad)))
+        let l = s more (λ over. none_to_come rest more told (end over)) in
+        let others = lines_of (now.ahead ++ more) in
+        (now.line ∷ others, l ∙ append_assoc before (now.line ∷ []) others, inl (promised, bad)))
 
 pub goes_on : {over : Bool} → over ≡ false → over ≡ true → ⊥
 goes_on open_at over = cc

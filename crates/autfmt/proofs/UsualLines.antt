@@ -102,8 +102,8 @@ plain_in_front bytes a rest e = let h = plain_at-takes bytes a rest e in (a, inl
 
 -- ---- Whole lines
 
--- `BeginsWithMark mark bytes rest` holds if the list `bytes` begins with `mark` and at most one blank, and `rest` are the
--- bytes after these characters.
+-- `BeginsWithMark mark bytes rest` holds if the list `bytes` begins with `mark` and at most one blank, and `rest` are
+-- the bytes after these characters.
 abbrev BeginsWithMark : List ℕ → List ℕ → List ℕ → Type 0
 BeginsWithMark mark bytes rest =
     (blank : List ℕ) × Blanks blank × (length blank ≤ 1) × (bytes ≡ mark ++ (blank ++ rest))
@@ -126,7 +126,8 @@ transition_in_front bytes r0 r1 r2 r3 r4 r5 r6 s a t e0 source e1 (spelling, lab
     let (d, between, short', q) = comma_in_front r3 r4 e3 in
     let (z, last, few, r) = end_in_front r5 r6 e5 in
     let nested : bytes ≡ codes "("
-    ++ (decimal s ++ (codes "," ++ (b ++ (spelling ++ (codes "," ++ (d ++ (decimal t ++ (codes ")" ++ (z ++ 10 ∷ r6))))))))) =
+    ++ (decimal s ++ (codes "," ++ (b ++ (spelling ++ (codes "," ++
+    (d ++ (decimal t ++ (codes ")" ++ (z ++ 10 ∷ r6))))))))) =
     cc (past-takes 40 bytes r0 e0, p, q, r) in
     record {
       line = spelled_line s b spelling d t ++ z;

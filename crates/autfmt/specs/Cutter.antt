@@ -2,9 +2,9 @@
 -- object from which the input is read), and divides these bytes into lines.
 use Rattle.std.specs.Prelude.{◌≡◌, ◌⊎◌, ℕ, ◌<◌, ◌≤◌, Bool, true, false, IsTrue, List, [], ◌∷◌, ◌++◌, length, Option}
 use Rattle.std.specs.Prelude.{None, Some, IfSome}
-use Rattle.std.specs.List.{All, flat_map, slice_range}
+use Rattle.std.specs.List.{slice_range}
 use Rattle.std.specs.Io.KnownBytes.{IsAtEnd}
-use Rattle.autfmt.specs.Texts.{Lines, IsOneLine, IsShort}
+use Rattle.autfmt.specs.Texts.{lines_of, IsOneLine, IsShort}
 use Rattle.autfmt.specs.declared.cutter.TheConstants.{CHUNK}
 use Rattle.autfmt.specs.declared.line.TheConstants.{LONGEST_LINE}
 
@@ -77,16 +77,10 @@ pub record Feeds (rest : Option (List ℕ)) (failures : ℕ) (at : Cutting) : Ty
   pub sound : failures ≡ 0
   pub end : IsTrue at.over → IsAtEnd rest
 
--- `with_line_feeds lines` is the list of the bytes of all lines in `lines`, in their order, with a line feed after each
--- line.
-abbrev pub with_line_feeds : List (List ℕ) → List ℕ
-with_line_feeds lines = flat_map (λ line. line ++ 10 ∷ []) lines
-
 -- `HasCut given lines at` holds if the line splitter in the state `at` has divided the bytes `given` into the lines of
--- the list `lines`. If the line splitter has not reached the end of the input (`at.over` is false), `given` consists of
--- these lines, each followed by a line feed, and of the bytes that are not yet divided into lines (`at.ahead`). If the
--- line splitter has reached the end of the input, `lines` contains all lines of `given`, and `at.ahead` is empty.
+-- the list `lines`. This means that the following holds for all bytes `more` that may follow in the input. The lines of
+-- the whole input are the lines of the list `lines`, followed by the lines of the bytes that are not yet divided into
+-- lines (`at.ahead` and `more`). If the line splitter has reached the end of the input (`at.over`), no bytes follow.
 abbrev pub HasCut : List ℕ → List (List ℕ) → Cutting → Type 0
 HasCut given lines at =
-    ((at.over ≡ false) × (given ≡ with_line_feeds lines ++ at.ahead) × All IsOneLine lines)
-    ⊎ ((at.over ≡ true) × (at.ahead ≡ []) × Lines given lines)
+    (more : List ℕ) → (at.over ≡ true → more ≡ []) → lines_of (given ++ more) ≡ lines ++ lines_of (at.ahead ++ more)

@@ -1,6 +1,6 @@
 -- This file defines the lines of an input, and the system that an input denotes.
-use Rattle.std.specs.Prelude.{◌≡◌, ◌≢◌, ℕ, ◌<◌, ◌≤◌, List, [], ◌∷◌, ◌++◌, length}
-use Rattle.std.specs.List.{All, AllZip, flat_map}
+use Rattle.std.specs.Prelude.{◌≡◌, ◌≢◌, ℕ, ◌<◌, ◌≤◌, ◌==◌, List, [], ◌∷◌, length, if◌then◌else◌}
+use Rattle.std.specs.List.{All, AllZip, onto_first}
 use Rattle.theory.specs.System.{System, Transition, IsAmong, IsSystem}
 use Rattle.autfmt.specs.declared.line.TheConstants.{LONGEST_LINE}
 use Rattle.autfmt.specs.Bounds.{Bounds}
@@ -10,23 +10,15 @@ use Rattle.autfmt.specs.Grammar.{Header, TransitionLine}
 abbrev pub IsOneLine : List ℕ → Type 0
 IsOneLine line = All (λ b. b ≢ 10) line
 
--- `Cuts text ended rest` holds if the text consists of the lines in the list `ended`, each followed by a line feed, and
--- of the bytes `rest`, which contain no line feed.
-pub record Cuts (text : List ℕ) (ended : List (List ℕ)) (rest : List ℕ) : Type 0 where
-  pub whole : text ≡ flat_map (λ line. line ++ 10 ∷ []) ended ++ rest
-  pub lines : All IsOneLine ended
-  pub one : IsOneLine rest
+-- `lines_of text` is the list of the lines of the text. The lines are the parts into which the line feeds divide the
+-- text, in their order. If the part after the last line feed is empty, it is not a line.
+abbrev pub lines_of : List ℕ → List (List ℕ)
+lines_of [] = []
+lines_of (b ∷ bs) = if b == 10 then [] ∷ lines_of bs else onto_first b (lines_of bs)
 
--- `last_line rest` is the list of the lines after the last line feed of a text, where `rest` are the bytes after this
--- line feed. If `rest` is not empty, `rest` is the only line in this list. If `rest` is empty, the list is empty.
-abbrev pub last_line : List ℕ → List (List ℕ)
-last_line [] = []
-last_line (b ∷ bs) = (b ∷ bs) ∷ []
-
--- `Lines text lines` holds if `lines` is the list of the lines of the text. The lines are the parts into which the line
--- feeds divide the text, in their order. If the part after the last line feed is empty, it is not a line.
+-- `Lines text lines` holds if `lines` is the list of the lines of the text.
 abbrev pub Lines : List ℕ → List (List ℕ) → Type 0
-Lines text lines = (ended : List (List ℕ)) × (rest : List ℕ) × Cuts text ended rest × (lines ≡ ended ++ last_line rest)
+Lines text lines = lines_of text ≡ lines
 
 -- `IsShort line` holds if the line has at most 8192 bytes (`LONGEST_LINE`), without its line feed.
 abbrev pub IsShort : List ℕ → Type 0

@@ -69,8 +69,8 @@ pub use spelling::append;
 pub use stream::Broken;
 pub use text_laws::{
     a_hide_list_has_one_reading, a_hide_list_reads_or_has_a_fault, a_judged_fault_is_the_first,
-    a_judged_hide_fault_is_the_first, a_text_has_its_lines, a_text_has_one_cut,
-    a_text_has_one_reading, a_text_reads_or_has_a_fault, hiding_depends_on_the_labels,
+    a_judged_hide_fault_is_the_first, a_text_has_its_lines, a_text_has_one_reading,
+    a_text_reads_or_has_a_fault, hiding_depends_on_the_labels,
 };
 pub use write_laws::{text_is_one, text_is_read_again};
 pub use writer::write;

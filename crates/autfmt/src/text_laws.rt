@@ -3,29 +3,26 @@
 //! one system, or has exactly one first error. No input can be read as a system and has a first error. In the same way,
 //! each hide list either can be read as exactly one list of labels, or has exactly one first error. Each theorem is
 //! stated as the contract of a function with an empty body.
-ghost use Rattle.std.specs.Prelude.{◌≡◌, ◌≢◌, ◌⊎◌, ◌↔◌, ℕ, List, [], ◌++◌};
+ghost use Rattle.std.specs.Prelude.{◌≡◌, ◌≢◌, ◌⊎◌, ◌↔◌, ℕ, ◌≤◌, List, [], ◌∷◌, ◌++◌, length};
 ghost use Rattle.theory.specs.System.{System, Hide};
 ghost use Rattle.autfmt.specs.declared.fault.Fault.{Fault};
 ghost use Rattle.autfmt.specs.declared.fault.Fault.TheVariants.{ExtraText, LineTooLong, MissingEdges, TooManyHidden};
 ghost use Rattle.autfmt.specs.Bounds.{Bounds};
-ghost use Rattle.autfmt.specs.Texts.{Cuts, Lines, Reads};
+ghost use Rattle.autfmt.specs.Texts.{IsOneLine, lines_of, Lines, Reads};
 ghost use Rattle.autfmt.specs.Faults.{FirstFault, JudgedFault};
 ghost use Rattle.autfmt.specs.HideLists.{HideReads, FirstHideFault, JudgedHideFault};
 ghost use Rattle.autfmt.specs.HideReaders.{SameLabels};
 ghost use Rattle.autfmt.specs.Readers.{HasGoodHeader};
 
-/// Every input can be divided at its line feeds in exactly one way (`Cuts`).
-pub fn a_text_has_one_cut()
-    ensures some { (text : List ℕ) → (ended : List (List ℕ)) × (rest : List ℕ)
-        × Cuts text ended rest }
-    ensures one { (text : List ℕ) (e e' : List (List ℕ)) (r r' : List ℕ) →
-        Cuts text e r → Cuts text e' r' → (e ≡ e') × (r ≡ r') }
-{}
-
-/// Every input can be divided into lines in exactly one way (`Lines`).
+/// Every input can be divided into lines in exactly one way (`Lines`). If a line and a line feed are put in front of an
+/// input, then this line is put in front of the lines of the input. If an input is not empty and contains no line feed,
+/// then it consists of one line.
 pub fn a_text_has_its_lines()
     ensures some { (text : List ℕ) → (lines : List (List ℕ)) × Lines text lines }
     ensures one { (text : List ℕ) (k l : List (List ℕ)) → Lines text k → Lines text l → k ≡ l }
+    ensures first { (line text : List ℕ) → IsOneLine line →
+        Lines (line ++ 10 ∷ text) (line ∷ lines_of text) }
+    ensures last { (line : List ℕ) → IsOneLine line → 1 ≤ length line → Lines line (line ∷ []) }
 {}
 
 /// Every input can be read as at most one system. Every input has at most one first error (`FirstFault`).
@@ -58,10 +55,9 @@ pub fn a_text_reads_or_has_a_fault()
 pub fn a_judged_fault_is_the_first()
     ensures first { (bounds : Bounds) (given more : List ℕ) (f : Fault) →
         JudgedFault bounds given f → FirstFault bounds (given ++ more) f }
-    ensures ended { (bounds : Bounds) (given : List ℕ) (ended : List (List ℕ)) (f : Fault) →
-        Cuts given ended [] → FirstFault bounds given f → ended ≢ [] →
-        ((found : ℕ) → f ≢ MissingEdges found) →
-        JudgedFault bounds given f }
+    ensures ended { (bounds : Bounds) (front : List ℕ) (f : Fault) →
+        FirstFault bounds (front ++ 10 ∷ []) f → ((found : ℕ) → f ≢ MissingEdges found) →
+        JudgedFault bounds (front ++ 10 ∷ []) f }
     ensures long { (bounds : Bounds) (given : List ℕ) (k : ℕ) →
         FirstFault bounds given (LineTooLong k) → JudgedFault bounds given (LineTooLong k) }
     ensures extra { (bounds : Bounds) (given : List ℕ) (k : ℕ) →
@@ -96,8 +92,8 @@ pub fn a_hide_list_reads_or_has_a_fault()
 pub fn a_judged_hide_fault_is_the_first()
     ensures first { (given more : List ℕ) (f : Fault) → JudgedHideFault given f →
         FirstHideFault (given ++ more) f }
-    ensures ended { (given : List ℕ) (ended : List (List ℕ)) (f : Fault) →
-        Cuts given ended [] → FirstHideFault given f → JudgedHideFault given f }
+    ensures ended { (front : List ℕ) (f : Fault) →
+        FirstHideFault (front ++ 10 ∷ []) f → JudgedHideFault (front ++ 10 ∷ []) f }
     ensures long { (given : List ℕ) (k : ℕ) →
         FirstHideFault given (LineTooLong k) → JudgedHideFault given (LineTooLong k) }
     ensures extra { (given : List ℕ) → FirstHideFault given TooManyHidden →
