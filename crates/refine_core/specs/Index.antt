@@ -3,8 +3,7 @@
 -- backwards along transitions, which it looks up in the index. This file defines which states the search has to find,
 -- and what holds while the search is in progress. The place of a transition is its index in the list of all
 -- transitions.
-use Rattle.std.specs.Prelude.{◌≡◌, ◌⊎◌, ℕ, ◌<◌, ◌≤◌, ◌==◌, Bool, true, false, IsTrue, List, length}
-use Rattle.std.specs.Prelude.{slice_index, slice_index_or}
+use Rattle.std.specs.Prelude.{◌≡◌, ◌⊎◌, ℕ, ◌==◌, Bool, false, IsTrue, List, length, slice_index, slice_index_or}
 use Rattle.std.specs.List.{All, IsDistinct}
 use Rattle.std.specs.Io.{StartsWith}
 use Rattle.theory.specs.System.{Step, internal}
