@@ -1,4 +1,3 @@
 pub mod Listing
 pub mod Filling
 pub mod Searching
-pub mod Spending

@@ -33,7 +33,8 @@ loop-k-preserved g c =
     let step = rw c.blocks-2.ensures at c.step-step.ensures.step in
     record {
       row = went u c.args.s c.invariants.ensures.lts c.invariants.ensures.laws c.inert_steps_stay.ensures.block
-          c.loop-k.invariant.row (c.requires.found.led c.args.i c.requires.more) at from _ _ step c.in_ok-explore.ensures.takes;
+          c.loop-k.invariant.row (c.requires.found.led c.args.i c.requires.more) at from _ _ step
+          c.in_ok-explore.ensures.takes;
       cost = search (rules, ap (λ x. price x k) c.requires.visited);
     }
 

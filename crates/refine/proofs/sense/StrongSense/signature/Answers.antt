@@ -1,12 +1,11 @@
 use Rattle.std.proofs.Common.{rules, ◌∙◌, [], sym}
 use Rattle.std.proofs.lemmas.List.{append-nil}
 use Rattle.refine_core.proofs.CallerLemmas.{row_signature}
-use Rattle.refine.proofs.Spending.{on_err_from}
 use Rattle.refine.proofs.sense.StrongSense.signature.Goals as goal
 
 pub returns-in_err-extend_from_slice-clause-extends : goal.returns-in_err-extend_from_slice-clause-extends
-returns-in_err-extend_from_slice-clause-extends g c = on_err_from c.from_residual-in_err-extend_from_slice.result
-    ([], c.in_err-extend_from_slice.ensures.items ∙ sym (append-nil c.args.out.now.items))
+returns-in_err-extend_from_slice-clause-extends g c =
+    let none = c.in_err-extend_from_slice.ensures.items ∙ sym (append-nil c.args.out.now.items) in search (rules, [])
 
 pub returns-clause-appends : goal.returns-clause-appends
 returns-clause-appends g c =
