@@ -30,10 +30,11 @@ transitions-kept old new states (e ∷ es) keeps h = let text = keeps.texts (lab
     let rest = transitions-kept old new states es keeps (λ k d l. h (suc k) d (omega arith)) in
     search rules
 
--- States are numbers. `HasAppended` holds while the transitions of the system l are appended to a union, with the number
--- `shift` added to each of their states. The label table and the triples were `old_labels` and `old_es` before, and are
--- `labels` and es now. The first k transitions of l were appended, the part of the union that is built satisfies
--- `IsJoined`, and the meter has counted k visits (reads of transitions). Its counts were `start` before, and are `now`.
+-- States are numbers. `HasAppended` holds while the transitions of the system l are appended to a union, with the
+-- number `shift` added to each of their states. The label table and the triples were `old_labels` and `old_es` before,
+-- and are `labels` and es now. The first k transitions of l were appended, the part of the union that is built
+-- satisfies `IsJoined`, and the meter has counted k visits (reads of transitions). Its counts were `start` before, and
+-- are `now`.
 pub record HasAppended (l : Grouped) (shift : ℕ) (old_labels : List (List ℕ)) (old_es : List Triple)
     (labels : List (List ℕ)) (es : List Triple) (start now : Counts) (k : ℕ) : Type 0 where
   pub joined : IsJoined labels (shift + l.states) es

@@ -73,8 +73,8 @@ equal_represented l P Q xs ys in_p in_q of_p of_q = (
       grind (arith, of_p.exactly z.0 z.1, of_q.exactly z.0 z.1, is)),
 )
 
--- Suppose that the list xs stores the signature of the state s, and that the list ys stores the signature of the state t
--- (`IsSignature`). Then xs and ys are equal if and only if the signatures of s and t are equal.
+-- Suppose that the list xs stores the signature of the state s, and that the list ys stores the signature of the state
+-- t (`IsSignature`). Then xs and ys are equal if and only if the signatures of s and t are equal.
 pub equal_lists : (rel : Relation) (l : Grouped) (lts : IsLts l) (blocks : List ℕ) (s t : ℕ)
     (xs ys : List (ℕ × ℕ)) → IsSignature rel l blocks s xs → IsSignature rel l blocks t ys
     → (xs ≡ ys) ↔ SameSignature rel (system_of l) (slice_index blocks) s t

@@ -1,7 +1,7 @@
--- Lemmas about signatures that are the same as in the last round, and about strong signatures. The row of a state is the
--- list of its outgoing transitions. The pair of a transition consists of its label ID and the block ID of its target.
--- For strong bisimilarity, the signature of a state is the list of the pairs of its transitions, in ascending order and
--- without duplicates.
+-- Lemmas about signatures that are the same as in the last round, and about strong signatures. The row of a state is
+-- the list of its outgoing transitions. The pair of a transition consists of its label ID and the block ID of its
+-- target. For strong bisimilarity, the signature of a state is the list of the pairs of its transitions, in ascending
+-- order and without duplicates.
 use Rattle.std.proofs.Common.{rules, ◌≡◌, ◌↔◌, ℕ, ◌+◌, ◌<◌, List, [], length, slice_index, set, Contains, arith, ◌-◌}
 use Rattle.std.proofs.Common.{◌≤◌, take, map, sym, refl, ap, inl, inr, ◌∙◌, Option, None, Some}
 use Rattle.std.proofs.lemmas.Grind.{common_steps}
@@ -25,8 +25,8 @@ use Rattle.refine_core.specs.Rounds.{list_of, HasNewBlock, IsAsBefore, IsStrongS
 
 -- Suppose that the blocks result from splitting the blocks of the last round (`Follows`). For branching bisimilarity,
 -- suppose also that the signatures have not been discarded since the last round. If the signature of the state s
--- contains no ID of a new block, and for branching bisimilarity s is not in a new block either (`MentionsOnlyOld`), then
--- the signature of s is the same as in the last round.
+-- contains no ID of a new block, and for branching bisimilarity s is not in a new block either (`MentionsOnlyOld`),
+-- then the signature of s is the same as in the last round.
 pub unaffected_as_before : (rel : Relation) (l : Grouped) → IsSystem (system_of l) → (old : Option (List ℕ))
     (of : List ℕ) (low : ℕ) → (rel ≡ Branching → ¬ (old ≡ None)) → Follows rel l old of low → (s : ℕ) → s < l.states
     → MentionsOnlyOld rel (system_of l) (slice_index of) low s → IsAsBefore rel l old of s

@@ -6,7 +6,8 @@ use Rattle.refine.proofs.one_round.round.Goals as goal
 
 -- A meter counts rounds and visits (reads of transitions). Suppose that the meter counts one round, and after that at
 -- least `least` and at most n visits, and no further round. Then the meter has counted one round and these visits.
-in_all : (old begun at : Counts) (least n : ℕ) → Costs old begun 1 0 0 → Costs begun at 0 least n → Costs old at 1 least n
+in_all : (old begun at : Counts) (least n : ℕ) → Costs old begun 1 0 0 → Costs begun at 0 least n
+    → Costs old at 1 least n
 in_all old begun at least n start read = omega arith
 
 -- Under the same conditions, the number of visits is at most n times the number of rounds.

@@ -5,7 +5,8 @@ use Rattle.refine_core.proofs.signed_blocks.splittable_states.Goals as goal
 
 pub loop-s-preserved-then-start-end : goal.loop-s-preserved-then-start-end
 loop-s-preserved-then-start-end g c =
-    live_less (inr (nil_from_length _ (omega (arith, c.row-start.ensures.count, c.if-start-end.true)))) c.loop-s.invariant
+    live_less (inr (nil_from_length _ (omega (arith, c.row-start.ensures.count, c.if-start-end.true))))
+    c.loop-s.invariant
 
 pub loop-s-preserved-then-is_singleton : goal.loop-s-preserved-then-is_singleton
 loop-s-preserved-then-is_singleton g c = live_less (inl (c.is_singleton.ensures.0 c.if-is_singleton.true))

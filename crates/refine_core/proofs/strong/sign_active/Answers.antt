@@ -19,7 +19,8 @@ loop-s-preserved g c =
     let done = c.in_ok-signature_ids.ensures in
     let rises = c.requires.signature_ids.ascending in
     record {
-      put = signed_more c.intern_signature.ensures.grow rises inv.states c.loop-s-test.true inv.put done.within done.put;
+      put = signed_more c.intern_signature.ensures.grow rises inv.states c.loop-s-test.true inv.put done.within
+          done.put;
       states = length-set _ _ _ ∙ inv.states;
       none = inactive_none_more c.loop-s.signature_ids.items c.args.active.now i _ c.loop-s-test.true inv.none;
       some = omega (arith, inv.some, c.intern_signature.ensures.grow.longer);
