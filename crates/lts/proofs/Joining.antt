@@ -19,7 +19,7 @@ use Rattle.lts.specs.Lts.{IsLts}
 use Rattle.lts.specs.Lts.{IsUsedLabel, Grouped, IsBuilt}
 use Rattle.lts.specs.Meter.{Counts, Costs}
 use Rattle.lts.specs.Union.{IsJoined, AddsShifted}
-use Rattle.lts.proofs.Grouped.{ascending-append, ascending-map, ascending-from_map, grouped-same}
+use Rattle.lts.proofs.Rows.{ascending-append, ascending-map, ascending-from_map, grouped-same}
 
 -- Suppose that each label of the old label table has the same ID in the new label table. Then the triples (source,
 -- label ID, target) represent the same transitions with the new table as with the old table.

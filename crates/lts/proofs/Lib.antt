@@ -1,14 +1,10 @@
 pub mod CallerLemmas
 pub mod Table
-pub mod Contained
 pub mod Filters
 pub mod Rows
-pub mod Grouped
 pub mod Placing
 pub mod Fields
 pub mod Rising
 pub mod Joining
 pub mod Indexing
-pub mod Leaving
 pub mod Visits
-pub mod Bits

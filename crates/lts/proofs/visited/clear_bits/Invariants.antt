@@ -1,5 +1,5 @@
 use Rattle.std.proofs.Common.{◌≡◌, length}
-use Rattle.lts.proofs.Bits.{IsClearing}
+use Rattle.lts.proofs.Visits.{IsClearing}
 use Rattle.lts.proofs.visited.clear_bits.Given as goal
 
 abbrev pub invariant-loop-i : goal.invariant-loop-i

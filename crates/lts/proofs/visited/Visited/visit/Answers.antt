@@ -1,6 +1,6 @@
 use Rattle.std.proofs.Common.{◌≡◌, ℕ, ◌/◌, ◌<◌, length, slice_index_or, refl, arith}
 use Rattle.std.proofs.lemmas.List.{get_or_read}
-use Rattle.lts.proofs.Bits.{bits_same, bit_more}
+use Rattle.lts.proofs.Visits.{bits_same, bit_more}
 use Rattle.lts.proofs.visited.Visited.visit.Given.{Over}
 use Rattle.lts.proofs.visited.Visited.visit.Goals as goal
 use Rattle.lts.proofs.visited.Visited.visit.Goals.{then-word-len+in_ok-widen, else-word-len, After-push}
