@@ -192,8 +192,7 @@ module _ (rel : Relation) (A : System) (block : ℕ → ℕ) (laws : Laws rel A 
           ap length e ∙ h.counted.2,
         )
       ];
-      fewer = λ l.
-          grind (arith, takes.classes, length_push old.classes.items (block s), h.fewer, other, l);
+      fewer = λ l. grind (arith, takes.classes, length_push old.classes.items (block s), h.fewer, other, l);
     }
 
   -- The invariant of the loop (`Taken`) holds before the loop processes any state. At this time, only the block of the

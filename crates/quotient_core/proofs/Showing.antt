@@ -175,8 +175,7 @@ once_next g n i xs ys h own one other a b d low high =
 -- `read_class` takes. The loop takes the states of the block of the class one after the other. The loop takes the last
 -- state of the list `members` first, and then the other states in the order of this list.
 abbrev pub was_read : Numbering → ℕ → List ℕ → (ℕ → ℕ) → ℕ → ℕ → Bool
-was_read n i members at k s =
-    is_member n i s && ltb (cond (eqb (at s + 1) (length members)) 0 (at s + 1)) k
+was_read n i members at k s = is_member n i s && ltb (cond (eqb (at s + 1) (length members)) 0 (at s + 1)) k
 
 -- `IsReadTo` is the invariant of the loop of `read_class`, which takes the states of the block of the class i one after
 -- the other. The invariant holds after the loop has taken the first k states. The two main conditions of the invariant

@@ -29,7 +29,8 @@ returns-in_err-add_class-clause-visits g c = visits_then c.loop-number.invariant
     (rows_fit c.args.l.now c.args.numbering.now c.loop-number.number)
 
 pub returns-clause-visits : goal.returns-clause-visits
-returns-clause-visits g c = visits_at_most c.loop-number.invariant.visits (rows_few _ _)
+returns-clause-visits g c = visits_at_most c.loop-number.invariant.visits
+    (rows_few (is_below c.args.numbering.now c.loop-number.number) c.args.l.now.places)
 
 pub add_class-requires : goal.add_class-requires
 add_class-requires g c = let own = tidy g (goal.at.add_class-requires g c).After-edges in
