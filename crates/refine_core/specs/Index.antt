@@ -41,9 +41,11 @@ abbrev pub FindsSources : Bool → Grouped → List ℕ → List ℕ → ℕ →
 FindsSources inert l of found t = (s : ℕ) (a : List ℕ) → Step (system_of l) s a t
     → (IsTrue inert → (a ≡ internal) × (slice_index of s ≡ slice_index of t)) → IsFoundOrSingleton of found s
 
--- `SearchIsComplete` holds if the list `found` of the states that a search has found contains all states that the
--- search has to find: all states whose signatures may have changed (`AreEnoughToProcess`). States in singleton blocks
--- (blocks with one state) need not be found.
+-- `SearchIsComplete` holds if the list `found` of the states that a search has found contains all states whose
+-- signatures may have changed (`AreEnoughToProcess`). States in singleton blocks (blocks with one state) need not be
+-- found (`IsFoundOrSingleton`). A block is new if the last split has made it, and otherwise it is old. The search has
+-- to find the source of each step to a state of a new block. For branching bisimilarity, the search also has to find
+-- the states of new blocks, and the source of each inert step to a found state of an old block.
 abbrev pub SearchIsComplete : Relation → Grouped → RoundBlocks → List ℕ → Type 0
 SearchIsComplete rel l p found = AreEnoughToProcess rel (system_of l) (slice_index p.block_ids) p.first_new
     (IsFoundOrSingleton p.block_ids found)

@@ -4,10 +4,10 @@
 -- split signatures differ. The split signature of a state is empty if the signature of the state has not changed since
 -- the last round, and otherwise it is the new signature. For branching bisimilarity, the signatures of all states are
 -- cached from round to round. The first definitions of this file are about signatures, about the blocks of the last
--- round, and about the cache. The following definitions state what must hold for the data of a round at three times:
--- when the round begins, when it computes signatures, and when it has split the blocks. They make sure that states that
--- are not active need not be processed. The last definitions are about one round as a whole, and about the blocks that
--- several rounds make.
+-- round, and about the cache. The following definitions state what must hold for the data of a round at four times:
+-- when the round begins (`Awaits`), before it computes signatures (`IsReadyToSign`), after it has computed signatures
+-- (`SignsRound`), and after it has split the blocks (`IsNextRound`). They make sure that states that are not active
+-- need not be processed. The last definitions are about the blocks that several rounds make.
 use Rattle.std.specs.Prelude.{◌≡◌, ◌⊎◌, ◌↔◌, ℕ, ◌<◌, ◌≤◌, List, [], ◌∷◌, length, slice_index, Option, None, Some, ◌^◌}
 use Rattle.std.specs.Prelude.{IfSome}
 use Rattle.std.specs.List.{Contains}
@@ -98,8 +98,8 @@ HasNewBlock first_new pairs = (z : ℕ × ℕ) × Contains pairs z × (first_new
 
 -- `IsStrongSplitSignature` holds if `list` is the split signature of the state s for strong bisimilarity. A block is
 -- new if its ID is at least `first_new`. If no block ID in the signature of s is new (`MentionsOnlyOld`), this
--- signature is the same as in the last round, and `list` must be empty. Otherwise, `list` must be the signature of s,
--- and must not be empty.
+-- signature is the same as in the last round, and `list` must be empty. Before the first round, the signature of each
+-- state is taken to be empty. In all other cases, `list` must be the signature of s, and must not be empty.
 abbrev pub IsStrongSplitSignature : Grouped → List ℕ → ℕ → ℕ → List (ℕ × ℕ) → Type 0
 IsStrongSplitSignature l of first_new s list =
     let unaffected = MentionsOnlyOld Strong (system_of l) (slice_index of) first_new s in
@@ -131,21 +131,21 @@ AreAllActive l = OthersSatisfy (λ s. row_of s l.places ≡ []) l.states
 
 -- `IsAtRound` states what holds for r, the data of a round (`Signed`), when the round begins, and also when the round
 -- computes signatures. The data r must contain the block ID of each state of the system `l`. The argument `old`
--- contains the block IDs of all states in the last round. If `old` is `None`, no round has run yet, or all signatures
--- have been discarded since the last round. The blocks of r must result from splitting the blocks of the last round
--- (`Follows`). If there is no predecessor index, each state must be active (processed by the round), be in a singleton
--- block, or have no outgoing transition. If there is a predecessor index, it must be an index of the system `l`
--- (`HasIndex`).
+-- contains the block IDs of all states in the last round. The blocks of r must then result from splitting these blocks
+-- (`Follows`). If `old` is `None`, no round has run yet, or all signatures have been discarded since the last round. In
+-- this case, all blocks must count as new for strong bisimilarity (`first_new` is 0). If there is no predecessor index,
+-- each state must be active (processed by the round), be in a singleton block, or have no outgoing transition. If there
+-- is a predecessor index, it must be an index of the system `l` (`HasIndex`).
 pub record IsAtRound (rel : Relation) (l : Grouped) (old : Option (List ℕ)) (r : Signed) : Type 0 where
   pub states : length r.blocks.block_ids ≡ l.states
   pub follows : Follows rel l old r.blocks.block_ids r.blocks.first_new
   pub all : r.index ≡ None → AreAllActive l r.blocks.block_ids r.blocks.active
   pub index : IfSome r.index (HasIndex rel l r.blocks.block_ids)
 
--- `Awaits` holds if r, the data of a round (`Signed`), is ready for a new round (`IsAtRound`). The field `old` contains
--- the block IDs of all states in the last round, or is `None` if no round has run yet. If there is a predecessor index,
--- a round must have run before, and for branching bisimilarity, the signatures of the last round must be cached
--- (`CachesIds`).
+-- `Awaits` holds if r, the data of a round (`Signed`), is ready for a new round. The data r must satisfy `IsAtRound`.
+-- The field `old` contains the block IDs of all states in the last round, or is `None` if no round has run yet. If
+-- there is a predecessor index, a round must have run before, and for branching bisimilarity, the signatures of the
+-- last round must be cached (`CachesIds`).
 pub record Awaits (rel : Relation) (l : Grouped) (r : Signed) : Type 0 where
   pub old : Option (List ℕ)
   pub is : IsAtRound rel l old r
@@ -153,10 +153,10 @@ pub record Awaits (rel : Relation) (l : Grouped) (r : Signed) : Type 0 where
       × (rel ≡ Branching → CachesIds l r.blocks.block_ids r.signatures r.cached old)
 
 -- `IsReadyToSign` holds if r, the data of a round (`Signed`), is ready for computing the signatures of the active
--- states, which are the states that the round processes (`IsAtRound`). The field `old` contains the block IDs of all
--- states in the last round. Each state that is neither active nor in a singleton block must have the same signature as
--- in the last round. For branching bisimilarity, the signatures of the last round must be cached (`CachesIds`). If
--- `old` is `None`, the signature of each state in the last round is taken to be empty.
+-- states. The active states are the states that the round processes. The data r must satisfy `IsAtRound`. The field
+-- `old` contains the block IDs of all states in the last round. Each state that is neither active nor in a singleton
+-- block must have the same signature as in the last round. For branching bisimilarity, the signatures of the last round
+-- must be cached (`CachesIds`). If `old` is `None`, the signature of each state in the last round is taken to be empty.
 pub record IsReadyToSign (rel : Relation) (l : Grouped) (r : Signed) : Type 0 where
   pub old : Option (List ℕ)
   pub is : IsAtRound rel l old r
@@ -164,9 +164,9 @@ pub record IsReadyToSign (rel : Relation) (l : Grouped) (r : Signed) : Type 0 wh
   pub cached : rel ≡ Branching → CachesIds l r.blocks.block_ids r.signatures r.cached old
 
 -- `MayBuildIndex` is about the step of a round that may build the predecessor index. The data of the round is p before
--- the step, and r after the step. The step must not have changed the blocks and the cached signature IDs. Either the
--- step must not have changed any data; or it must have discarded all interned signatures except the empty signature,
--- and r must contain an index. If r contains an index, it must be an index of the system `l` (`HasIndex`).
+-- the step, and r after the step. The step must have changed neither the blocks nor the cached signature IDs. Either
+-- the step must not have changed any data; or it must have discarded all interned signatures except the empty
+-- signature, and r must contain an index. If r contains an index, it must be an index of the system `l` (`HasIndex`).
 pub record MayBuildIndex (rel : Relation) (l : Grouped) (p r : Signed) : Type 0 where
   pub blocks : r.blocks ≡ p.blocks
   pub cached : r.cached ≡ p.cached
@@ -174,14 +174,15 @@ pub record MayBuildIndex (rel : Relation) (l : Grouped) (p r : Signed) : Type 0 
   pub index : IfSome r.index (HasIndex rel l r.blocks.block_ids)
 
 -- `SignsRound` is about the step of a round that computes the signatures of the active states, which are the states
--- that the round processes. The data of the round is p before the step, and r after the step. The step must not have
--- changed the blocks and the predecessor index. After the step, `signature_ids` must contain the ID of an interned
--- signature for each state, and the ID of the empty signature for each state that is not active (`HaveSignatures`).
--- Suppose that two states share a block. Then `signature_ids` must contain the same ID for both states if and only if
--- their signatures are equal (`SameSignature`). For branching bisimilarity, the new signatures must be cached for the
--- next round (`CachesIds`). Suppose that, in p, all blocks count as new (`first_new` is 0) for strong bisimilarity, and
--- that all cached signatures are empty for branching bisimilarity. Then `signature_ids` must contain the ID of the
--- signature of each active state.
+-- that the round processes. The data of the round is p before the step, and r after the step. The step must have
+-- changed neither the blocks nor the predecessor index. After the step, `signature_ids` must contain the ID of an
+-- interned signature for each state, and the ID of the empty signature for each state that is not active
+-- (`HaveSignatures`). Suppose that two states share a block. Then `signature_ids` must contain the same ID for both
+-- states if and only if their signatures are equal (`SameSignature`). For branching bisimilarity, the new signatures
+-- must be cached for the next round (`CachesIds`). The last condition (`first`) is about signatures that are computed
+-- as if no round had run before. For strong bisimilarity, this means that all blocks of p count as new (`first_new` is
+-- 0). For branching bisimilarity, it means that the cached signature of each state in p is empty. In this case,
+-- `signature_ids` must contain the ID of the signature of each active state.
 pub record SignsRound (rel : Relation) (l : Grouped) (p r : Signed) : Type 0 where
   pub blocks : r.blocks ≡ p.blocks
   pub index : r.index ≡ p.index

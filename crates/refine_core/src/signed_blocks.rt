@@ -100,6 +100,8 @@ impl SignedBlocks {
         ensures blocks { IfOk result (λ r. r.blocks ≡ blocks) }
         ensures absent { IfOk result (λ r. r.index ≡ None) }
         ensures none { IfOk result (λ r. r.visited ≡ []) }
+        ensures empty { IfOk result (λ r. (s : ℕ) → s < length r.signature_ids
+            → slice_index r.signature_ids s ≡ 0) }
     {
         let states = blocks.block_ids().len();
         Ok(SignedBlocks {
@@ -182,7 +184,7 @@ impl SignedBlocks {
             × (r.visited ≡ self.visited)) }
         ensures discarded { IfOk result
             (λ r. HasNoSignatures r.blocks.block_ids r.signatures r.cached) }
-        ensures none { IfOk result (λ r. (s : ℕ) → s < length r.signature_ids
+        ensures empty { IfOk result (λ r. (s : ℕ) → s < length r.signature_ids
             → slice_index r.signature_ids s ≡ 0) }
     {
         let states = self.blocks.block_ids().len() as u32;
@@ -285,6 +287,7 @@ impl SignedBlocks {
 
         // On success
         ensures begun { IfOk result (IsReadyToSign relation l.now) }
+        ensures index { IfOk result (λ r. ¬ (r.index ≡ None)) }
         ensures blocks { IfOk result
             (λ r. r.blocks ≡ record self.blocks { active = r.blocks.active }) }
         ensures visited { IfOk result
@@ -319,6 +322,9 @@ impl SignedBlocks {
         ensures blocks { IfOk result
             (λ r. r.blocks ≡ record self.blocks { active = r.blocks.active }) }
         ensures visited { IfOk result (λ r. r.visited ≡ self.visited) }
+        ensures index { IfOk result (λ r. r.index ≡ self.index) }
+        ensures discarded { IfOk result
+            (λ r. HasNoSignatures r.blocks.block_ids r.signatures r.cached) }
     {
         let round = self.discard_signatures()?;
         let active = splittable_states(round.alloc, &round.blocks, l)?;

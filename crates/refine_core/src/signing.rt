@@ -34,9 +34,10 @@ pub trait Signing {
         ensures discarded { IfOk result (λ r. relation ≡ branching
             → HasNoSignatures r.blocks.block_ids r.signatures r.cached) };
 
-    /// Computes the signature of each active state (each state that the round processes). A visit is a read of a
-    /// transition that the meter counts. If a transition was already visited in this round, the method may read the
-    /// transition again, but the meter does not count this read.
+    /// Computes the signatures of the active states (the states that the round processes), and stores signature IDs in
+    /// `signature_ids`. Two states of a block get the same ID if and only if their signatures are equal (`SignsRound`).
+    /// A visit is a read of a transition that the meter counts. If a transition was already visited in this round, the
+    /// method may read the transition again, but the meter does not count this read.
     fn sign<M: Meter>(l: &Lts<M>, round: SignedBlocks, m: &mut M) -> Result<SignedBlocks, Memory>
         requires ready { IsReadyToSign relation l.now round }
         requires visited { AreVisited l.now.places round.visited }

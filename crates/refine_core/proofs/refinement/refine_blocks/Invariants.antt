@@ -10,8 +10,9 @@ use Rattle.refine_core.proofs.refinement.refine_blocks.Given as goal
 -- `Made` holds if a sequence of rounds has led from the partition with only one block to the partition `blocks`. Each
 -- of these rounds has split at least one block, and there were fewer rounds than states. The list `past` contains the
 -- partition before each round. If a round has changed the block ID of a state, the new block of the state had at most
--- half the size of the old block (`WereHalved`). In each round, the meter has counted one visit (read of a transition)
--- for each transition. The meter had the counts `old` before the first round, and has the counts `at` after the last
+-- half the size of the old block (`WereHalved`). The meter has counted each of these rounds. In all these rounds
+-- together, the number of visits (reads of transitions that the meter counts) is the number of the rounds times the
+-- number of transitions. The meter had the counts `old` before the first round, and has the counts `at` after the last
 -- round.
 pub record Made (rel : Relation) (l : Grouped) (old at : Counts) (blocks : List ℕ) : Type 0 where
   pub rounds : ℕ

@@ -25,8 +25,8 @@ returns-in_default-clause-begun g c = IfOk-weaker c.begin_index.result _ _
     c.in_ok-round.ensures.same.0 c.in_ok-round.ensures.discarded)
     (rw c.signed_relation-relation.ensures at c.begin_index.ensures.begins)
 
--- Suppose that there was a predecessor index. When the round has emptied the set of the visited transitions, it is
--- ready for the search in this index.
+-- Suppose that there was a predecessor index. When the round has emptied the set of the visited transitions, the data
+-- of the round is ready for the search in this index.
 pub find_active-requires-clause-awaits : goal.find_active-requires-clause-awaits
 find_active-requires-clause-awaits g c =
     rw c.signed_relation-relation.ensures (rw (sym c.take.ensures.value ∙ c.in-Some.is) at

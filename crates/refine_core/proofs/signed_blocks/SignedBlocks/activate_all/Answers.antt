@@ -3,7 +3,7 @@ use Rattle.refine_core.proofs.IndexStates.{begun_all}
 use Rattle.refine_core.proofs.signed_blocks.SignedBlocks.activate_all.Goals as goal
 
 pub invariant_of-result : goal.invariant_of-result
-invariant_of-result g c = let none = rw (sym c.round.view_is) at c.in_ok-round.ensures.none in
+invariant_of-result g c = let none = rw (sym c.round.view_is) at c.in_ok-round.ensures.empty in
     rw c.with_active-blocks.ensures.same (c.round.invariant.0, λ s h. inr (none s h))
 
 pub returns-clause-begun : goal.returns-clause-begun
@@ -11,3 +11,7 @@ returns-clause-begun g c rel awaits = let round = rw (sym c.round.view_is) at c.
     rw c.with_active-blocks.ensures.same
     (begun_all rel _ _ _ awaits (rw round.same.0 refl) c.in_ok-active.ensures.others
     (rw (round.same.1, round.same.0) awaits.is.index) (λ _. round.discarded))
+
+pub returns-clause-discarded : goal.returns-clause-discarded
+returns-clause-discarded g c = let round = rw (sym c.round.view_is) at c.in_ok-round.ensures in
+    rw c.with_active-blocks.ensures.same round.discarded

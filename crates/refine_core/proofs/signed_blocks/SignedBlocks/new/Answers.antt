@@ -7,3 +7,7 @@ invariant_of-result c = rw (c.in_ok-vec.ensures.items_if_clones_equal (λ y is. 
   length-replicate _ 0 ∙ ap length c.block_ids-states.ensures.block_ids,
   λ s h. inr (get_or-replicate _ s 0 0 (subst (λ n. s < n) (length-replicate _ 0) h)),
 )
+
+pub returns-clause-empty : goal.returns-clause-empty
+returns-clause-empty c = rw (c.in_ok-vec.ensures.items_if_clones_equal (λ y is. is))
+    (λ s h. get_or-replicate _ s 0 0 (subst (λ n. s < n) (length-replicate _ 0) h))
