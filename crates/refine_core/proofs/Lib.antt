@@ -2,4 +2,4 @@ pub mod CallerLemmas
 pub mod StrongSignatures
 pub mod Signatures
 pub mod Searching
-pub mod IndexStates
+pub mod Rounds

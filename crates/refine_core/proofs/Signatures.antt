@@ -12,9 +12,10 @@ use Rattle.std.proofs.Math.Logic.{⊎_map}
 use Rattle.std.proofs.lemmas.List.{take_at}
 use Rattle.theory.specs.declared.relation.Relation.{Relation}
 use Rattle.theory.specs.declared.relation.Relation.TheVariants.{Strong, Branching}
+use Rattle.theory.specs.System.{IsSystem}
 use Rattle.theory.specs.Blocks.{SameSignature}
-use Rattle.theory.specs.Unaffected.{HasEmptySignature}
-use Rattle.theory.proofs.CallerLemmas.{empty_before}
+use Rattle.theory.specs.Unaffected.{HasEmptySignature, MentionsOnlyOld}
+use Rattle.theory.proofs.CallerLemmas.{empty_before, still_stays}
 use Rattle.lts.specs.Labels.{text_of, IsLabelId}
 use Rattle.lts.specs.Lts.{Grouped, IsLts, system_of}
 use Rattle.lts.proofs.CallerLemmas.{labels_have_ids}
@@ -25,7 +26,7 @@ use Rattle.partition.specs.Blocks.{IsMember, InactiveHaveNone}
 use Rattle.inert.specs.Signed.{CachesBeside, SignsActive, IsListOf, IsSignature}
 use Rattle.refine_core.specs.Rounds.{Signed, HaveSignatures, list_of, Was, IsAsBefore, Follows, IsStrongSplitSignature}
 use Rattle.refine_core.specs.Rounds.{IsReadyToSign, SignsRound}
-use Rattle.refine_core.proofs.StrongSignatures.{unaffected_as_before, as_before_unaffected}
+use Rattle.refine_core.proofs.StrongSignatures.{as_before_unaffected}
 
 -- Suppose that the list `signature_ids` contains a signature ID for each state, and the ID of the empty signature for
 -- each state that is not active (not processed by the round). Suppose that further elements are appended to this list.
@@ -90,6 +91,20 @@ was_alike : (rel : Relation) (l : Grouped) (old : Option (List ℕ)) (of : List 
 was_alike rel l None of low was s t ls lt one a b = (λ h. h, λ h. h)
 was_alike rel l (Some old) of low was s t ls lt one a b = ((was.split s t ls lt).0 one).1 a b
 
+-- Suppose that the blocks result from splitting the blocks of the last round (`Follows`). For branching bisimilarity,
+-- suppose also that the signatures have not been discarded since the last round. If the signature of the state s
+-- contains no ID of a new block, and for branching bisimilarity s is not in a new block either (`MentionsOnlyOld`),
+-- then the signature of s is the same as in the last round.
+pub unaffected_as_before : (rel : Relation) (l : Grouped) → IsSystem (system_of l) → (old : Option (List ℕ))
+    (of : List ℕ) (low : ℕ) → (rel ≡ Branching → ¬ (old ≡ None)) → Follows rel l old of low → (s : ℕ) → s < l.states
+    → MentionsOnlyOld rel (system_of l) (slice_index of) low s → IsAsBefore rel l old of s
+unaffected_as_before Strong l sys None of low some follows s h still a b =
+    (λ can. absurd (omega (arith, still.1 a b can, follows refl)), λ none. absurd none)
+unaffected_as_before Branching l sys None of low some follows s h still a b = absurd (some refl refl)
+unaffected_as_before rel l sys (Some old) of low some follows s h still a b =
+    still_stays (system_of l) sys (slice_index old) (slice_index of)
+    (λ s t ls lt e. ((follows.split s t ls lt).0 e).0) low follows.stays s h rel still a b
+
 -- `IsSplitSignature` holds if `list` is the split signature of the state s. If the signature of s is the same as in the
 -- last round, `list` must be empty. Otherwise, `list` must be the new signature of s, and must not be empty.
 abbrev IsSplitSignature : Relation → Grouped → Option (List ℕ) → List ℕ → ℕ → List (ℕ × ℕ) → Type 0
@@ -116,13 +131,13 @@ module _ (rel : Relation) (l : Grouped) (lts : IsLts l) (r : Signed) (ready : Is
   abbrev Each : ℕ → Type 0
   Each s = IsSingleton blocks s ⊎ IsSplitSignature rel l ready.old blocks s (shown s)
 
-  -- `Tells` holds if the lists `shown s` and `shown t` are equal if and only if the signatures of the states s and t
-  -- are equal.
-  abbrev Tells : ℕ → ℕ → Type 0
-  Tells s t = (shown s ≡ shown t) ↔ SameSignature rel (system_of l) (slice_index blocks) s t
+  -- `AreEqualTogether` holds if the lists `shown s` and `shown t` are equal if and only if the signatures of the states
+  -- s and t are equal.
+  abbrev AreEqualTogether : ℕ → ℕ → Type 0
+  AreEqualTogether s t = (shown s ≡ shown t) ↔ SameSignature rel (system_of l) (slice_index blocks) s t
 
-  one_state : (s t : ℕ) → s ≡ t → Tells s t
-  one_state s t e = subst (Tells s) e (λ h a b. (λ p. p, λ p. p), λ h. refl)
+  one_state : (s t : ℕ) → s ≡ t → AreEqualTogether s t
+  one_state s t e = subst (AreEqualTogether s) e (λ h a b. (λ p. p, λ p. p), λ h. refl)
 
   -- Suppose that the states s and t share a block. Suppose that the signature of s is the same as in the last round,
   -- and that the signature of t has changed. Then the signatures of s and t are not equal.
@@ -134,28 +149,29 @@ module _ (rel : Relation) (l : Grouped) (lts : IsLts l) (r : Signed) (ready : Is
 
   -- Suppose that the states s and t share a block. Then the split signatures of s and t are equal if and only if the
   -- signatures of s and t are equal.
-  told : (s t : ℕ) → s < l.states → t < l.states → slice_index blocks s ≡ slice_index blocks t → Each s → Each t
-      → Tells s t
-  told s t ls lt one (inl only) y = one_state s t (sym (only t (omega (arith, lt, ready.is.states)) (sym one)))
-  told s t ls lt one (inr x) (inl only) = one_state s t (only s (omega (arith, ls, ready.is.states)) one)
-  told s t ls lt one (inr (inl p)) (inr (inl q)) = (
+  equal_split_signatures : (s t : ℕ) → s < l.states → t < l.states → slice_index blocks s ≡ slice_index blocks t
+      → Each s → Each t → AreEqualTogether s t
+  equal_split_signatures s t ls lt one (inl only) y = one_state s t (grind (arith, only t, ready.is.states))
+  equal_split_signatures s t ls lt one (inr x) (inl only) = one_state s t (grind (arith, only s, ready.is.states))
+  equal_split_signatures s t ls lt one (inr (inl p)) (inr (inl q)) = (
     λ h a b. grind
         (arith, p.1 a b, q.1 a b, was_alike rel l ready.old blocks _ ready.is.follows s t ls lt one a b),
     λ h. p.0 ∙ sym q.0,
   )
-  told s t ls lt one (inr (inl p)) (inr (inr q)) = grind (arith, p.0, q.0, differ s t ls lt one p.1 q.1)
-  told s t ls lt one (inr (inr p)) (inr (inl q)) =
+  equal_split_signatures s t ls lt one (inr (inl p)) (inr (inr q)) =
+      grind (arith, p.0, q.0, differ s t ls lt one p.1 q.1)
+  equal_split_signatures s t ls lt one (inr (inr p)) (inr (inl q)) =
       (λ h. absurd (p.0 (h ∙ q.0)), λ h. absurd (differ t s lt ls (sym one) q.1 p.1 (λ a b. ((h a b).1, (h a b).0))))
-  told s t ls lt one (inr (inr p)) (inr (inr q)) = equal_lists rel l lts blocks s t _ _ p.2 q.2
+  equal_split_signatures s t ls lt one (inr (inr p)) (inr (inr q)) = equal_lists rel l lts blocks s t _ _ p.2 q.2
 
   each : (s : ℕ) → s < l.states → Each s
   each s h = grind (arith, ready.others s h, have.none s, given s h, have.states, ready.is.states, are.first)
 
-  tells : (s t : ℕ) → s < l.states → t < l.states → slice_index blocks s ≡ slice_index blocks t
+  separates : (s t : ℕ) → s < l.states → t < l.states → slice_index blocks s ≡ slice_index blocks t
       → (slice_index signature_ids s ≡ slice_index signature_ids t)
       ↔ SameSignature rel (system_of l) (slice_index blocks) s t
-  tells s t ls lt one =
-      let (to, from) = told s t ls lt one (each s ls) (each t lt) in
+  separates s t ls lt one =
+      let (to, from) = equal_split_signatures s t ls lt one (each s ls) (each t lt) in
       let within = λ (s : ℕ) (h : s < l.states). have.each s 0 (omega (arith, h, have.states, ready.is.states)) in
       (λ e. to (ap (list_at signatures) e), λ same. are.different _ _ (within s ls) (within t lt) (from same))
 
@@ -173,7 +189,7 @@ strong_signs l lts r ready signatures signature_ids are have put = record {
   blocks = refl;
   index = refl;
   have = have;
-  tells = tells Strong l lts r ready signatures signature_ids are have (λ s h one. inr (⊎_map
+  separates = separates Strong l lts r ready signatures signature_ids are have (λ s h one. inr (⊎_map
       (λ p. (p.0, unaffected_as_before Strong l lts.system ready.old _ _ (λ is. absurd cc) ready.is.follows s h p.1))
       (λ q. (q.0, λ same. q.1 (as_before_unaffected l lts.system ready.old _ _ ready.is.follows s same), q.2))
       (put s one)));
@@ -258,11 +274,11 @@ module _ (l : Grouped) (r : Signed) (ready : IsReadyToSign Branching l r) where
       -- before if and only if the signature of s has not changed since the last round.
       unchanged : (slice_index r.cached s ≡ slice_index cached s) ↔ IsAsBefore Branching l ready.old of s
       unchanged =
-          let told = equal_represented l _ _ (list_of signatures cached s) (list_of r.signatures r.cached s)
+          let equal = equal_represented l _ _ (list_of signatures cached s) (list_of r.signatures r.cached s)
           (label_id_of l lts Branching (Some of) s) (label_id_of l lts Branching ready.old s) (signs.signed s one)
           was in
           let apart = are.different (slice_index r.cached s) (slice_index cached s) in
-          grind (arith, told, same_list s h, apart, within s h, signs.grow.longer, signs.each s 0, signs.states)
+          grind (arith, equal, same_list s h, apart, within s h, signs.grow.longer, signs.each s 0, signs.states)
 
       -- Suppose that the signature of the active state s (a state that the round processes) is empty in this round.
       -- Then the signature of s was empty in the last round, too.
@@ -303,7 +319,7 @@ module _ (l : Grouped) (r : Signed) (ready : IsReadyToSign Branching l r) where
       blocks = refl;
       index = refl;
       have = record { each = signs.ids; states = size; none = none };
-      tells = tells Branching l lts r ready signatures signature_ids are
+      separates = separates Branching l lts r ready signatures signature_ids are
           (record { each = signs.ids; states = size; none = none })
           (λ s h one. ⊎_map (λ alone. alone) (split_id lts s h one) ((ready.cached refl).each s h));
       cached = λ branching. record {

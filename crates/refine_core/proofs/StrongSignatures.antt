@@ -1,7 +1,6 @@
--- Lemmas about signatures that are the same as in the last round, and about strong signatures. The row of a state is
--- the list of its outgoing transitions. The pair of a transition consists of its label ID and the block ID of its
--- target. For strong bisimilarity, the signature of a state is the list of the pairs of its transitions, in ascending
--- order and without duplicates.
+-- Lemmas about strong signatures. The row of a state is the list of its outgoing transitions. The pair of a transition
+-- consists of its label ID and the block ID of its target. For strong bisimilarity, the signature of a state is the
+-- list of the pairs of its transitions, in ascending order and without duplicates.
 use Rattle.std.proofs.Common.{rules, ◌≡◌, ◌↔◌, ℕ, ◌+◌, ◌<◌, List, [], length, slice_index, set, Contains, arith, ◌-◌}
 use Rattle.std.proofs.Common.{◌≤◌, take, map, sym, refl, ap, inl, inr, ◌∙◌, Option, None, Some}
 use Rattle.std.proofs.lemmas.Grind.{common_steps}
@@ -9,10 +8,9 @@ use Rattle.std.proofs.lemmas.List.{get_or-set_other, length-set}
 use Rattle.std.proofs.lemmas.List.Elements.{All-contains}
 use Rattle.std.specs.List.Sorted.{IsStrictlySortedBy}
 use Rattle.theory.specs.System.{IsSystem}
-use Rattle.theory.specs.declared.relation.Relation.{Relation}
-use Rattle.theory.specs.declared.relation.Relation.TheVariants.{Strong, Branching}
+use Rattle.theory.specs.declared.relation.Relation.TheVariants.{Strong}
 use Rattle.theory.specs.Unaffected.{MentionsOnlyOld}
-use Rattle.theory.proofs.CallerLemmas.{step_below, still_stays}
+use Rattle.theory.proofs.CallerLemmas.{step_below}
 use Rattle.lts.specs.Labels.{text_of}
 use Rattle.lts.specs.Lts.{Grouped, Triple, target_of, before, row_of, system_of, IsTriple, IsLts}
 use Rattle.lts.specs.Visited.{remaining_of}
@@ -22,20 +20,6 @@ use Rattle.signatures.specs.Lists.{list_at, Grow, pair_cmp}
 use Rattle.partition.specs.Blocks.{AreActive, InactiveHaveNone}
 use Rattle.inert.specs.Signed.{HasPair, IsSignature, pair_under}
 use Rattle.refine_core.specs.Rounds.{list_of, HasNewBlock, IsAsBefore, IsStrongSplitSignature, Follows}
-
--- Suppose that the blocks result from splitting the blocks of the last round (`Follows`). For branching bisimilarity,
--- suppose also that the signatures have not been discarded since the last round. If the signature of the state s
--- contains no ID of a new block, and for branching bisimilarity s is not in a new block either (`MentionsOnlyOld`),
--- then the signature of s is the same as in the last round.
-pub unaffected_as_before : (rel : Relation) (l : Grouped) → IsSystem (system_of l) → (old : Option (List ℕ))
-    (of : List ℕ) (low : ℕ) → (rel ≡ Branching → ¬ (old ≡ None)) → Follows rel l old of low → (s : ℕ) → s < l.states
-    → MentionsOnlyOld rel (system_of l) (slice_index of) low s → IsAsBefore rel l old of s
-unaffected_as_before Strong l sys None of low some follows s h still a b =
-    (λ can. absurd (omega (arith, still.1 a b can, follows refl)), λ none. absurd none)
-unaffected_as_before Branching l sys None of low some follows s h still a b = absurd (some refl refl)
-unaffected_as_before rel l sys (Some old) of low some follows s h still a b =
-    still_stays (system_of l) sys (slice_index old) (slice_index of)
-    (λ s t ls lt e. ((follows.split s t ls lt).0 e).0) low follows.stays s h rel still a b
 
 -- Suppose that the strong signature of the state s is the same as in the last round. Then it contains no ID of a new
 -- block, which is a block that the last split has made.

@@ -33,13 +33,12 @@ pub record HasIndex (rel : Relation) (l : Grouped) (of : List ℕ) (x : Entries)
 abbrev pub IsFoundOrSingleton : List ℕ → List ℕ → ℕ → Type 0
 IsFoundOrSingleton of found s = IsMember found s ⊎ IsSingleton of s
 
--- `FindsSources` holds if a search has found the sources of certain steps to the state t. If `inert` is false, the
--- search must have found the source of each step to t. If `inert` is true, the search must have found the source of
--- each inert step to t. A step is inert if it is internal, and if its source and its target are in the same block.
--- Sources in singleton blocks (blocks with one state) need not be found.
-abbrev pub FindsSources : Bool → Grouped → List ℕ → List ℕ → ℕ → Type 0
-FindsSources inert l of found t = (s : ℕ) (a : List ℕ) → Step (system_of l) s a t
-    → (IsTrue inert → (a ≡ internal) × (slice_index of s ≡ slice_index of t)) → IsFoundOrSingleton of found s
+-- Let R be a condition on states. `SourcesSatisfy` holds if the sources of certain steps to the state t satisfy R. If
+-- `inert` is false, the source of each step to t must satisfy R. If `inert` is true, the source of each inert step to t
+-- must satisfy R. A step is inert if it is internal, and if its source and its target are in the same block.
+abbrev pub SourcesSatisfy : Bool → Grouped → List ℕ → ℕ → (ℕ → Type 0) → Type 0
+SourcesSatisfy inert l of t R = (s : ℕ) (a : List ℕ) → Step (system_of l) s a t
+    → (IsTrue inert → (a ≡ internal) × (slice_index of s ≡ slice_index of t)) → R s
 
 -- `SearchIsComplete` holds if the list `found` of the states that a search has found contains all states whose
 -- signatures may have changed (`AreEnoughToProcess`). States in singleton blocks (blocks with one state) need not be
@@ -66,13 +65,13 @@ IsNotLookedUp places visited t = All (λ k. ¬ (target_of (place_at places k) �
 -- `before` before the step, and `found` after the step. A visit is a read of a transition that the meter counts. The
 -- list of the places (indices) of the visited transitions is `old` before the step, and `visited` after the step.
 -- `HasLookedUp` holds if all three of the following conditions hold. First, after the step, the search has found the
--- sources that it has to find for t (`FindsSources`). Second, the list `found` begins with the list `before`. Third, if
--- a state s differs from t, and no transition to s was visited before the step, then no transition to s was visited
--- during the step.
+-- source of each step to t, or only of each inert step to t if `inert` is true (`SourcesSatisfy`), except for sources
+-- in singleton blocks. Second, the list `found` begins with the list `before`. Third, if a state s differs from t, and
+-- no transition to s was visited before the step, then no transition to s was visited during the step.
 pub record HasLookedUp (inert : Bool) (l : Grouped) (of : List ℕ) (t : ℕ) (before found old visited : List ℕ) :
     Type 0 where
   pub more : StartsWith found before
-  pub sources : FindsSources inert l of found t
+  pub sources : SourcesSatisfy inert l of t (IsFoundOrSingleton of found)
   pub others : (s : ℕ) → ¬ (s ≡ t) → IsNotLookedUp l.places old s → IsNotLookedUp l.places visited s
 
 -- `IsUnmarked` holds if no state is marked, which means that no element of the list `marks` is true.

@@ -187,7 +187,7 @@ pub record SignsRound (rel : Relation) (l : Grouped) (p r : Signed) : Type 0 whe
   pub blocks : r.blocks ≡ p.blocks
   pub index : r.index ≡ p.index
   pub have : HaveSignatures r.blocks.block_ids r.blocks.active r.signatures r.signature_ids
-  pub tells : (s t : ℕ) → s < l.states → t < l.states
+  pub separates : (s t : ℕ) → s < l.states → t < l.states
       → slice_index r.blocks.block_ids s ≡ slice_index r.blocks.block_ids t
       → (slice_index r.signature_ids s ≡ slice_index r.signature_ids t)
       ↔ SameSignature rel (system_of l) (slice_index r.blocks.block_ids) s t

@@ -54,8 +54,7 @@ pub fn refine_blocks<S: Signing, M: Meter>(
         let next = next_round::<S, M>(before, l, m)?;
         let more = next.count();
         if more == count {
-            let blocks = next.into_blocks();
-            return Ok(blocks);
+            return Ok(next.into_blocks());
         }
         round = next;
     }

@@ -6,9 +6,9 @@ use Rattle.refine.proofs.one_round.round.Goals as goal
 
 -- A meter counts rounds and visits (reads of transitions). Suppose that the meter counts one round, and after that at
 -- least `least` and at most n visits, and no further round. Then the meter has counted one round and these visits.
-in_all : (old begun at : Counts) (least n : ℕ) → Costs old begun 1 0 0 → Costs begun at 0 least n
+one_round_costs : (old begun at : Counts) (least n : ℕ) → Costs old begun 1 0 0 → Costs begun at 0 least n
     → Costs old at 1 least n
-in_all old begun at least n start read = omega arith
+one_round_costs old begun at least n start read = omega arith
 
 -- Under the same conditions, the number of visits is at most n times the number of rounds.
 begun_up_to : (old begun at : Counts) (least n : ℕ) → Costs old begun 1 0 0 → Costs begun at 0 least n →
@@ -34,7 +34,8 @@ returns-clause-split g c =
     )) c.split.ensures.blocks
 
 pub returns-clause-costs : goal.returns-clause-costs
-returns-clause-costs g c = let made = in_all _ _ _ _ _ c.start_round.ensures c.in_ok-fill.ensures.visits in search rules
+returns-clause-costs g c =
+    let made = one_round_costs _ _ _ _ _ c.start_round.ensures c.in_ok-fill.ensures.visits in search rules
 
 pub returns-clause-err : goal.returns-clause-err
 returns-clause-err g c = let most = begun_up_to _ _ _ _ _ c.start_round.ensures c.fill.ensures.visits in search rules

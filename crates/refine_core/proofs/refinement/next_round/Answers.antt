@@ -1,5 +1,5 @@
 use Rattle.std.proofs.Common.{◌∙◌}
-use Rattle.refine_core.proofs.IndexStates.{is_next}
+use Rattle.refine_core.proofs.Rounds.{is_next}
 use Rattle.refine_core.proofs.refinement.next_round.Goals as goal
 
 pub returns-clause-next : goal.returns-clause-next

@@ -93,7 +93,7 @@ module _ (g : Over) (c : After-count-more g) where
 pub returns-then-more-count-clause-bisimilar : goal.returns-then-more-count-clause-bisimilar
 returns-then-more-count-clause-bisimilar g c =
     let d = (goal.at.returns-then-more-count-clause-bisimilar g c).After-count-more in
-    rw c.into_blocks-blocks.ensures
+    rw c.into_blocks.ensures
     (c.final_blocks_are_bisimilarity.ensures _ _ _ _ c.states.ensures.lts.system (turns g d c.if-more-count.true)
     (slice_index (old g d).block_ids, c.loop-before.invariant.made.underway.after, (next g d).split))
 
@@ -103,7 +103,7 @@ returns-then-more-count-clause-few g c =
     let states = c.in_ok-next.ensures.next.awaits.is.states in
     let last = c.in_ok-next.next.blocks.block_ids in
     let past = c.loop-before.round.blocks.block_ids ∷ c.loop-before.invariant.made.past in
-    rw c.into_blocks-blocks.ensures (record {
+    rw c.into_blocks.ensures (record {
       last = last;
       past = past;
       rounds = rounds;

@@ -1,7 +1,7 @@
 use Rattle.std.proofs.Common.{◌∙◌, sym, ap}
 use Rattle.std.proofs.lemmas.Result.{IfOk-weaker}
 use Rattle.lts.proofs.CallerLemmas.{none_visited}
-use Rattle.refine_core.proofs.IndexStates.{begun_unindexed, cleared}
+use Rattle.refine_core.proofs.Rounds.{begun_unindexed, cleared}
 use Rattle.refine_core.proofs.signing.begin_round.Goals as goal
 
 -- Suppose that all signatures were discarded, and that the call of `activate_all` has succeeded. Then the data of the

@@ -1,6 +1,6 @@
 use Rattle.std.proofs.Common.{◌∙◌, inl}
 use Rattle.lts.proofs.CallerLemmas.{none_visited}
-use Rattle.refine_core.proofs.IndexStates.{ready_discarded}
+use Rattle.refine_core.proofs.Rounds.{ready_discarded}
 use Rattle.refine_core.proofs.signing.sign_all.Goals as goal
 
 -- The data of the round is ready for computing signatures, as if no round had run before (`IsReadyToSign`).

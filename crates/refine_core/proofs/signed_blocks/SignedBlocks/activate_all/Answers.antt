@@ -1,5 +1,5 @@
 use Rattle.std.proofs.Common.{refl, sym, inr}
-use Rattle.refine_core.proofs.IndexStates.{begun_all}
+use Rattle.refine_core.proofs.Rounds.{begun_all}
 use Rattle.refine_core.proofs.signed_blocks.SignedBlocks.activate_all.Goals as goal
 
 pub invariant_of-result : goal.invariant_of-result

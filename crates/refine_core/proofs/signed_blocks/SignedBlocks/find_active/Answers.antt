@@ -1,5 +1,5 @@
 use Rattle.std.proofs.Common.{◌∙◌, sym, inr, arith}
-use Rattle.refine_core.proofs.IndexStates.{searched}
+use Rattle.refine_core.proofs.Rounds.{searched}
 use Rattle.refine_core.proofs.signed_blocks.SignedBlocks.find_active.Goals as goal
 
 pub invariant_of-result : goal.invariant_of-result
