@@ -392,8 +392,8 @@ pub(crate) fn splittable_states<M: Meter>(
 fn forget(signature_ids: &mut Vec<u32>, blocks: &Blocks)
     requires states { length signature_ids.old.items ≡ length blocks.now.block_ids }
     requires none { InactiveHaveNone blocks.now.active signature_ids.old.items }
-    ensures states { length signature_ids.new.items ≡ length signature_ids.old.items }
-    ensures empty { (s : ℕ) → s < length signature_ids.old.items
+    ensures states { length signature_ids.new.items ≡ length blocks.now.block_ids }
+    ensures empty { (s : ℕ) → s < length signature_ids.new.items
         → slice_index signature_ids.new.items s ≡ 0 }
 {
     let active = blocks.active();
