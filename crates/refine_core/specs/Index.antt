@@ -13,7 +13,7 @@ use Rattle.theory.specs.Unaffected.{AreEnoughToProcess}
 use Rattle.lts.specs.Lts.{Grouped, Triple, source_of, target_of, place_at, system_of}
 use Rattle.lts.specs.Incoming.{Entries, IsIndex}
 use Rattle.lts.specs.Visited.{HasVisited}
-use Rattle.lts.specs.Meter.{Counts, HasRoomFor}
+use Rattle.lts.specs.Meter.{Counts, HasRoomFor, Costs}
 use Rattle.partition.specs.Splitting.{IsSingleton}
 use Rattle.partition.specs.Blocks.{RoundBlocks, AreActive, IsMember}
 use Rattle.refine_core.specs.declared.predecessors.Affected.{Affected}
@@ -101,10 +101,11 @@ pub record MarksFound (states : ℕ) (at : Affected) : Type 0 where
 -- contain no place twice. A visit is a read of a transition that the meter counts. Since the search began, the meter
 -- must have counted one visit for each place in `xs`, and no round. The record `start` contains the counts of the meter
 -- when the search began, and `now` contains the present counts of the meter. When the search began, the meter must have
--- had room for one visit of each transition.
+-- had room for one visit of each transition. Since then, the meter must have counted at most this number of visits.
 pub record SearchIsOn (l : Grouped) (of : List ℕ) (rel : Relation) (start now : Counts) (at : Affected) (xs : List ℕ) :
     Type 0 where
   pub index : HasIndex rel l of at.index
   pub marked : MarksFound (length of) at
   pub visited : HasVisited l.places start now xs
   pub room : HasRoomFor start 0 (length l.places)
+  pub costs : Costs start now 0 0 (length l.places)
