@@ -1,5 +1,4 @@
-use Rattle.std.proofs.Common.{◌≡◌, suc, ◌*◌, [], ◌∷◌, length, slice_index, None, ap, sym, ◌∙◌, arith}
-use Rattle.std.proofs.Common.{inl, inr, rules}
+use Rattle.std.proofs.Common.{◌≡◌, suc, ◌*◌, [], ◌∷◌, length, slice_index, None, ap, sym, ◌∙◌, inl, inr, arith, rules}
 use Rattle.std.proofs.Math.Logic.{⊎_map}
 use Rattle.std.proofs.lemmas.Nat.{mul-le}
 use Rattle.std.proofs.Math.Nat.{suc-mul}
