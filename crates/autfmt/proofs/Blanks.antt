@@ -99,7 +99,8 @@ Blanks-from_test bs e = grind (arith, All-weaker, IsBlank-from_test, AllPass-fro
 abbrev pub Without : ℕ → List ℕ → Type 0
 Without c bytes = All (λ b. b ≢ c) bytes
 
--- The lemma is used for the tokens that the grammar fixes, such as `des` and the comma.
+-- If no byte of a list passes the test for the byte c, then c does not occur in the list. The lemma is used for the
+-- tokens that the grammar fixes, such as `des` and the comma.
 pub Without-literal : (c : ℕ) (bytes : List ℕ) → list_all (λ b. not (b == c)) bytes ≡ true → Without c bytes
 Without-literal c bytes e =
     All-weaker (λ b. not (b == c) ≡ true) (λ b. b ≢ c) (λ b other same. let t = eq-eqb b c same in cc) bytes

@@ -1,5 +1,5 @@
--- The lemmas in this file are about the lines of a text that consists of two parts. The lemmas relate the lines of the
--- text to the lines of its parts.
+-- The lemmas in this file are about the lines of a text (`lines_of`). Most of them relate the lines of a text that
+-- consists of two parts to the lines of its parts.
 use Rattle.std.proofs.Common.{◌≡◌, ◌≢◌, ℕ, ◌≤◌, List, [], ◌∷◌, ◌++◌, length, refl, sym, ◌∙◌, ap, inl, inr, arith}
 use Rattle.std.specs.Prelude.{◌==◌}
 use Rattle.std.specs.List.{onto_first}
@@ -8,23 +8,20 @@ use Rattle.std.proofs.lemmas.List.{append-nil, length-append}
 use Rattle.std.proofs.lemmas.List.Elements.{All-head, All-tail}
 use Rattle.autfmt.specs.Texts.{lines_of, Lines, IsOneLine}
 
--- `IsNoFeed b` holds if the byte b is not a line feed.
-abbrev pub IsNoFeed : ℕ → Type 0
-IsNoFeed b = b ≢ 10
-
--- If a byte that is not a line feed is put in front of a text, then this byte is put in front of its first line.
+-- If a byte that is not a line feed is put in front of a text, then this byte is put in front of the first line of the
+-- text. If the text is empty, the result is one line, which consists of this byte.
 lines_of-byte : (b : ℕ) (text : List ℕ) → b ≢ 10 → lines_of (b ∷ text) ≡ onto_first b (lines_of text)
 lines_of-byte b text other = rw (ne_eqb b 10 other) refl
 
--- If a line and a line feed are put in front of a text, then this line is put in front of its lines.
+-- If a line and a line feed are put in front of a text, then this line is put in front of the lines of the text.
 pub lines_of-feed : (line more : List ℕ) → IsOneLine line → lines_of (line ++ 10 ∷ more) ≡ line ∷ lines_of more
 lines_of-feed [] more one = refl
 lines_of-feed (b ∷ line) more one =
-    lines_of-byte b (line ++ 10 ∷ more) (All-head IsNoFeed b line one)
-    ∙ ap (onto_first b) (lines_of-feed line more (All-tail IsNoFeed b line one))
+    lines_of-byte b (line ++ 10 ∷ more) (All-head (λ b. b ≢ 10) b line one)
+    ∙ ap (onto_first b) (lines_of-feed line more (All-tail (λ b. b ≢ 10) b line one))
 
--- `onto front lines` are the lines of a text if the bytes `front`, which contain no line feed, are put in front of it.
--- The list `lines` contains the lines of the text before this.
+-- Suppose that the bytes `front`, which contain no line feed, are put in front of a text with the lines `lines`. Then
+-- `onto front lines` is the list of the lines of the result.
 abbrev onto : List ℕ → List (List ℕ) → List (List ℕ)
 onto [] lines = lines
 onto (b ∷ bs) [] = (b ∷ bs) ∷ []
@@ -39,8 +36,8 @@ onto-more b (c ∷ front) (line ∷ others) = refl
 lines_of-onto : (front more : List ℕ) → IsOneLine front → lines_of (front ++ more) ≡ onto front (lines_of more)
 lines_of-onto [] more one = refl
 lines_of-onto (b ∷ front) more one =
-    lines_of-byte b (front ++ more) (All-head IsNoFeed b front one)
-    ∙ ap (onto_first b) (lines_of-onto front more (All-tail IsNoFeed b front one)) ∙ onto-more b front (lines_of more)
+    lines_of-byte b (front ++ more) (All-head (λ b. b ≢ 10) b front one)
+    ∙ ap (onto_first b) (lines_of-onto front more (All-tail (λ b. b ≢ 10) b front one)) ∙ onto-more b front (lines_of more)
 
 -- Suppose that a text begins with at least one byte, and that the bytes at its beginning contain no line feed. Then the
 -- first line of the text begins with these bytes.
@@ -74,7 +71,8 @@ some_line (b ∷ bs) some =
     cond_both (b == 10) ([] ∷ lines_of bs) (onto_first b (lines_of bs)) HasFirst (λ _. ([], lines_of bs, refl))
     (λ _. onto_first-first b (lines_of bs))
 
--- If bytes are appended to a text that ends with a line feed, then the lines of these bytes are appended to its lines.
+-- If bytes are appended to a text that ends with a line feed, then the lines of these bytes are appended to the lines of
+-- the text.
 pub ended_go_on : (front more : List ℕ) →
     lines_of (front ++ 10 ∷ more) ≡ lines_of (front ++ 10 ∷ []) ++ lines_of more
 ended_go_on [] more = refl
@@ -88,7 +86,7 @@ ended_go_on (b ∷ front) more =
 
 -- `Divides given lines rest` holds if the bytes `given` consist of the lines `lines` and of the bytes `rest`. This
 -- means that, for all bytes `more` that may follow, the lines of the whole input are the lines `lines`, followed by the
--- lines of `rest` and `more`.
+-- lines of `rest ++ more`.
 abbrev pub Divides : List ℕ → List (List ℕ) → List ℕ → Type 0
 Divides given lines rest = (more : List ℕ) → lines_of (given ++ more) ≡ lines ++ lines_of (rest ++ more)
 

@@ -1,7 +1,7 @@
 -- The lemmas in this file are about the first incorrect line of an input, which is a system or a hide list (a file with
 -- the labels to hide). In these lemmas, the relation `Good` relates a correct line to the transition or the label on
 -- this line. The number `most` is the largest number of such lines that is allowed.
-use Rattle.std.proofs.Common.{◌≡◌, ◌⊎◌, ◌↔◌, ⊎_elim, ℕ, ◌+◌, ◌<◌, ◌≤◌, List, [], ◌∷◌, ◌++◌, length, replicate, All}
+use Rattle.std.proofs.Common.{◌≡◌, ◌≢◌, ◌⊎◌, ◌↔◌, ⊎_elim, ℕ, ◌+◌, ◌<◌, ◌≤◌, List, [], ◌∷◌, ◌++◌, length, replicate, All}
 use Rattle.std.proofs.Common.{refl, sym, ◌∙◌, ap, subst, inl, inr, arith}
 use Rattle.std.specs.List.{AllZip}
 use Rattle.std.proofs.lemmas.Bool.{cases_lt}
@@ -13,7 +13,7 @@ use Rattle.autfmt.specs.declared.line.TheConstants.{LONGEST_LINE}
 use Rattle.autfmt.specs.Texts.{lines_of, Lines, IsOneLine, IsShort}
 use Rattle.autfmt.specs.Cutter.{IsPart}
 use Rattle.autfmt.proofs.Lists.{All-between}
-use Rattle.autfmt.proofs.Cutting.{IsNoFeed, only_line, Divides}
+use Rattle.autfmt.proofs.Cutting.{only_line, Divides}
 
 -- Suppose that an input can be read or has an error, and that it has no error if it can be read. Then the input can be
 -- read if and only if it has no error.
@@ -122,10 +122,10 @@ not_known First unique long given ended rest k cut shorts part too_long fault kn
         let zero : ℕ = 0 in
         let size : length more ≡ LONGEST_LINE + 1 = ap length is ∙ length-replicate (LONGEST_LINE + 1) zero in
         let one : IsOneLine more =
-        subst IsOneLine (sym is) (All-replicate IsNoFeed (LONGEST_LINE + 1) 0 (λ e. absurd (omega arith))) in
+        subst IsOneLine (sym is) (All-replicate (λ b. b ≢ 10) (LONGEST_LINE + 1) 0 (λ e. absurd (omega arith))) in
         let longer = length-append rest more in
         let l = cut more ∙ ap (λ (ls : List (List ℕ)). ended ++ ls)
-        (only_line (rest ++ more) (All-append IsNoFeed rest more part.0 one) (omega arith)) in
+        (only_line (rest ++ more) (All-append (λ b. b ≢ 10) rest more part.0 one) (omega arith)) in
         let bad = too_long (rest ++ more) (omega arith) (given ++ more) l in
         let e : fault ≡ LineTooLong k = unique (given ++ more) fault (LineTooLong k) (known more) bad in
         let (front, others, line, l', big) = long (given ++ []) k (subst (First (given ++ [])) e (known [])) in

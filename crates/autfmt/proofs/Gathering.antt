@@ -1,6 +1,6 @@
 -- The lemmas in this file are about the line splitter (`Cutter`), which puts a line together from several chunks of
 -- bytes.
-use Rattle.std.proofs.Common.{rules, ◌≡◌, ℕ, ◌+◌, ◌-◌, ◌<◌, ◌≤◌, Bool, true, false, suc, List, ◌∷◌, ◌++◌, length, take}
+use Rattle.std.proofs.Common.{rules, ◌≡◌, ◌≢◌, ℕ, ◌+◌, ◌-◌, ◌<◌, ◌≤◌, Bool, true, false, suc, List, ◌∷◌, ◌++◌, length, take}
 use Rattle.std.proofs.Common.{drop, Option, refl, ap, arith}
 use Rattle.std.proofs.lemmas.Grind.{common_steps}
 use Rattle.std.specs.List.{slice_range}
@@ -14,7 +14,6 @@ use Rattle.autfmt.specs.declared.cutter.Found.TheVariants.{Feed}
 use Rattle.autfmt.specs.Texts.{IsOneLine}
 use Rattle.autfmt.specs.Cutter.{Cutting, BeginsTooLong, CutsLine, IsPart}
 use Rattle.autfmt.specs.Gathering.{FoundIn}
-use Rattle.autfmt.proofs.Cutting.{IsNoFeed}
 use Rattle.autfmt.specs.declared.cutter.TheConstants.{CHUNK}
 use Rattle.autfmt.specs.declared.line.TheConstants.{LONGEST_LINE}
 
@@ -53,7 +52,7 @@ pub too_long : (a b c : Option (List ℕ)) (old bs buffer bytes front tail : Lis
 too_long a b c old bs buffer bytes front tail first e part second split one big =
     let (x, taken, same) = got_more a b c old bs buffer bytes first e second in
     let whole : old ++ x ≡ (buffer ++ front) ++ tail = cc (append_assoc buffer front tail) in
-    let longer = All-append IsNoFeed buffer front part.0 one in
+    let longer = All-append (λ b. b ≢ 10) buffer front part.0 one in
     grind (arith, length-append)
 
 -- Consider the elements of a list at the indices i with from <= i < to. The first `at` of these elements are the

@@ -7,6 +7,7 @@ use Rattle.autfmt.specs.Cutter.{Cutting, HasCut, CutsLine, BeginsTooLong}
 use Rattle.autfmt.proofs.Cutting.{Divides, lines_of-feed, only_line, first_begins, some_line}
 use Rattle.autfmt.specs.declared.line.TheConstants.{LONGEST_LINE}
 
+-- If two lists together are empty, then the second list is empty.
 none_behind : (xs ys : List ℕ) → xs ++ ys ≡ [] → ys ≡ []
 none_behind [] ys e = e
 none_behind (x ∷ xs) ys e = absurd cc

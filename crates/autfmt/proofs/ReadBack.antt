@@ -127,21 +127,22 @@ line_and_feed e = search (rules, codes, decimal, e.source, e.label, append_assoc
 header_and_feed : (A : System) → header_of A.first (length A.transitions) A.states ≡ header_line A ++ 10 ∷ []
 header_and_feed A = simp append_assoc
 
--- If the written form of a line is put in front of a text, then this line is put in front of the lines of the text.
-written_first : (written line others : List ℕ) → written ≡ line ++ 10 ∷ [] → IsOneLine line →
+-- If a line with its line feed (`written`) is put in front of a text, then this line is put in front of the lines of the
+-- text.
+lines_of-written_line : (written line others : List ℕ) → written ≡ line ++ 10 ∷ [] → IsOneLine line →
     lines_of (written ++ others) ≡ line ∷ lines_of others
-written_first written line others e one =
+lines_of-written_line written line others e one =
     ap (λ (t : List ℕ). lines_of (t ++ others)) e ∙ ap lines_of (append_assoc line (10 ∷ []) others)
     ∙ lines_of-feed line others one
 
 -- The lines of the bytes that are written for a list of transitions are the lines of the transitions.
-written_lines : (es : List Transition) → All IsOneLine (map transition_line es) →
+lines_of-written : (es : List Transition) → All IsOneLine (map transition_line es) →
     lines_of (flat_map written_transition es) ≡ map transition_line es
-written_lines [] one = refl
-written_lines (e ∷ es) one =
+lines_of-written [] one = refl
+lines_of-written (e ∷ es) one =
     let (line, others) : List ℕ × List (List ℕ) = (transition_line e, map transition_line es) in
-    written_first (written_transition e) line _ (line_and_feed e) (All-head IsOneLine line others one)
-    ∙ ap (λ (ls : List (List ℕ)). line ∷ ls) (written_lines es (All-tail IsOneLine line others one))
+    lines_of-written_line (written_transition e) line _ (line_and_feed e) (All-head IsOneLine line others one)
+    ∙ ap (λ (ls : List (List ℕ)). line ∷ ls) (lines_of-written es (All-tail IsOneLine line others one))
 
 -- `IsSmall B` holds if the first state, the number of transitions and the number of states of the system B have at most
 -- ten digits.
@@ -161,8 +162,8 @@ listed_whole : (B : System) → Header (header_line B) B.first (length B.transit
 listed_whole B header spelled =
     let lines = AllZip-firsts SpellsTransition IsOneLine
     (λ line e s. TransitionLine-one line e.source e.label e.target s.1) _ B.transitions spelled in
-    written_first (header_of B.first (length B.transitions) B.states) (header_line B) _ (header_and_feed B)
-    (Header-one _ _ _ _ header) ∙ ap (λ (ls : List (List ℕ)). header_line B ∷ ls) (written_lines B.transitions lines)
+    lines_of-written_line (header_of B.first (length B.transitions) B.states) (header_line B) _ (header_and_feed B)
+    (Header-one _ _ _ _ header) ∙ ap (λ (ls : List (List ℕ)). header_line B ∷ ls) (lines_of-written B.transitions lines)
 
 -- Suppose that a well-formed system is within the limits `bounds`, and that `bounds` does not exceed the limits for
 -- files. Then the header of the system, followed by the lines of its transitions in the order of the system (`listed`),

@@ -102,17 +102,17 @@ plain_in_front bytes a rest e = let h = plain_at-takes bytes a rest e in (a, inl
 
 -- ---- Whole lines
 
--- `BeginsWithMark mark bytes rest` holds if the list `bytes` begins with `mark` and at most one blank, and `rest` are
--- the bytes after these characters.
-abbrev BeginsWithMark : List ℕ → List ℕ → List ℕ → Type 0
-BeginsWithMark mark bytes rest =
-    (blank : List ℕ) × Blanks blank × (length blank ≤ 1) × (bytes ≡ mark ++ (blank ++ rest))
+-- `BeginsWithToken token bytes rest` holds if the list `bytes` begins with the token `token` and at most one blank after
+-- it, and `rest` are the bytes after this token and this blank.
+abbrev BeginsWithToken : List ℕ → List ℕ → List ℕ → Type 0
+BeginsWithToken token bytes rest =
+    (blank : List ℕ) × Blanks blank × (length blank ≤ 1) × (bytes ≡ token ++ (blank ++ rest))
 
-comma_in_front : (bytes rest : List ℕ) → FollowsComma bytes rest → BeginsWithMark (codes ",") bytes rest
+comma_in_front : (bytes rest : List ℕ) → FollowsComma bytes rest → BeginsWithToken (codes ",") bytes rest
 comma_in_front bytes rest (inl e) = ([], none, omega arith, e)
 comma_in_front bytes rest (inr e) = (codes " ", a_space, omega arith, e)
 
-end_in_front : (bytes rest : List ℕ) → FollowsEnd bytes rest → BeginsWithMark (codes ")") bytes (10 ∷ rest)
+end_in_front : (bytes rest : List ℕ) → FollowsEnd bytes rest → BeginsWithToken (codes ")") bytes (10 ∷ rest)
 end_in_front bytes rest (inl e) = ([], none, omega arith, e)
 end_in_front bytes rest (inr e) = (13 ∷ [], All-from_recursion IsBlank (13 ∷ []) (inr (inr refl), tt), omega arith, e)
 

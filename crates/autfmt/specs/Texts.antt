@@ -6,12 +6,10 @@ use Rattle.autfmt.specs.declared.line.TheConstants.{LONGEST_LINE}
 use Rattle.autfmt.specs.Bounds.{Bounds}
 use Rattle.autfmt.specs.Grammar.{Header, TransitionLine}
 
--- `IsOneLine line` holds if the bytes of the line contain no line feed.
-abbrev pub IsOneLine : List ℕ → Type 0
-IsOneLine line = All (λ b. b ≢ 10) line
-
--- `lines_of text` is the list of the lines of the text. The lines are the parts into which the line feeds divide the
--- text, in their order. If the part after the last line feed is empty, it is not a line.
+-- `lines_of text` is the list of the lines of the text. The line feeds divide the text into parts, and these parts are
+-- the lines, in their order. If the last part is empty, it is not a line, so the empty text has no lines. The function
+-- `onto_first` puts a byte in front of the first line of a list. If the list is empty, the result is one line, which
+-- consists of this byte.
 abbrev pub lines_of : List ℕ → List (List ℕ)
 lines_of [] = []
 lines_of (b ∷ bs) = if b == 10 then [] ∷ lines_of bs else onto_first b (lines_of bs)
@@ -19,6 +17,10 @@ lines_of (b ∷ bs) = if b == 10 then [] ∷ lines_of bs else onto_first b (line
 -- `Lines text lines` holds if `lines` is the list of the lines of the text.
 abbrev pub Lines : List ℕ → List (List ℕ) → Type 0
 Lines text lines = lines_of text ≡ lines
+
+-- `IsOneLine line` holds if the bytes of the line contain no line feed.
+abbrev pub IsOneLine : List ℕ → Type 0
+IsOneLine line = All (λ b. b ≢ 10) line
 
 -- `IsShort line` holds if the line has at most 8192 bytes (`LONGEST_LINE`), without its line feed.
 abbrev pub IsShort : List ℕ → Type 0

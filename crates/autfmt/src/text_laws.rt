@@ -14,15 +14,17 @@ ghost use Rattle.autfmt.specs.HideLists.{HideReads, FirstHideFault, JudgedHideFa
 ghost use Rattle.autfmt.specs.HideReaders.{SameLabels};
 ghost use Rattle.autfmt.specs.Readers.{HasGoodHeader};
 
-/// Every input can be divided into lines in exactly one way (`Lines`). If a line and a line feed are put in front of an
-/// input, then this line is put in front of the lines of the input. If an input is not empty and contains no line feed,
-/// then it consists of one line.
+/// Every input can be divided into lines in exactly one way (`Lines`). The empty input has no lines. If an input is not
+/// empty and contains no line feed, then it consists of one line. If a line and a line feed are put in front of an
+/// input, then this line is put in front of the lines of the input. These three facts determine the lines of every
+/// input.
 pub fn a_text_has_its_lines()
     ensures some { (text : List ℕ) → (lines : List (List ℕ)) × Lines text lines }
     ensures one { (text : List ℕ) (k l : List (List ℕ)) → Lines text k → Lines text l → k ≡ l }
+    ensures empty { Lines [] [] }
+    ensures last { (line : List ℕ) → IsOneLine line → 1 ≤ length line → Lines line (line ∷ []) }
     ensures first { (line text : List ℕ) → IsOneLine line →
         Lines (line ++ 10 ∷ text) (line ∷ lines_of text) }
-    ensures last { (line : List ℕ) → IsOneLine line → 1 ≤ length line → Lines line (line ∷ []) }
 {}
 
 /// Every input can be read as at most one system. Every input has at most one first error (`FirstFault`).

@@ -9,8 +9,8 @@ returns-clause-some c = λ text. (lines_of text, refl)
 pub returns-clause-one : goal.returns-clause-one
 returns-clause-one c = λ text k l a b. sym a ∙ b
 
-pub returns-clause-first : goal.returns-clause-first
-returns-clause-first c = lines_of-feed
-
 pub returns-clause-last : goal.returns-clause-last
 returns-clause-last c = only_line
+
+pub returns-clause-first : goal.returns-clause-first
+returns-clause-first c = lines_of-feed
