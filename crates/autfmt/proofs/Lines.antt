@@ -218,26 +218,27 @@ hide_line-label line a h = IsLabel-spelled h.0 a h.1
 
 -- ---- A header and a transition contain no line feed
 
+-- The tokens that the grammar fixes contain no line feed.
+fixed : Without 10 (codes "des") × Without 10 (codes "(") × Without 10 (codes ",") × Without 10 (codes ")")
+fixed =
+    let token = Without-literal 10 in
+    (token (codes "des") refl, token (codes "(") refl, token (codes ",") refl, token (codes ")") refl)
+
 pub Header-one : (line : List ℕ) (f m n : ℕ) → Header line f m n → IsOneLine line
 Header-one line f m n h =
+    let (des, before, comma, behind) = fixed in
     let first = Without-number 10 h.0 f (omega arith) h.3 in
     let transitions = Without-number 10 h.1 m (omega arith) h.4 in
     let states = Without-number 10 h.2 n (omega arith) h.5 in
-    let des = Without-literal 10 (codes "des") refl in
-    let before = Without-literal 10 (codes "(") refl in
-    let comma = Without-literal 10 (codes ",") refl in
-    let behind = Without-literal 10 (codes ")") refl in
     Without-spaced 10
     (codes "des" ∷ codes "(" ∷ h.0 ∷ codes "," ∷ h.1 ∷ codes "," ∷ h.2 ∷ codes ")" ∷ []) line refl
     (des, (before, (first, (comma, (transitions, (comma, (states, (behind, tt)))))))) h.6
 
 pub TransitionLine-one : (line : List ℕ) (s : ℕ) (a : List ℕ) (t : ℕ) → TransitionLine line s a t → IsOneLine line
 TransitionLine-one line s a t h =
+    let (des, before, comma, behind) = fixed in
     let source = Without-number 10 h.0 s (omega arith) h.3 in
     let label = Without-label 10 h.1 a (omega arith) h.4 in
     let target = Without-number 10 h.2 t (omega arith) h.5 in
-    let before = Without-literal 10 (codes "(") refl in
-    let comma = Without-literal 10 (codes ",") refl in
-    let behind = Without-literal 10 (codes ")") refl in
     Without-spaced 10 (codes "(" ∷ h.0 ∷ codes "," ∷ h.1 ∷ codes "," ∷ h.2 ∷ codes ")" ∷ []) line refl
     (before, (source, (comma, (label, (comma, (target, (behind, tt))))))) h.6

@@ -1,5 +1,5 @@
 //! This module stores the list of the labels that a reader hides.
-ghost use Rattle.std.specs.Prelude.{◌≡◌, ℕ, ◌<◌, List, [], length, Contains, IsSome, MatchOption, OnOk};
+ghost use Rattle.std.specs.Prelude.{◌≡◌, ◌<◌, [], length, Contains, IsSome, MatchOption, OnOk};
 ghost use Rattle.theory.specs.System.{IsLabel};
 ghost use Rattle.memory.specs.declared.limits.TheConstants.{MOST_LABELS};
 ghost use Rattle.lts.specs.Labels.{IsLabelId, Interns};
