@@ -11,17 +11,6 @@ use Rattle.autfmt.proofs.Blanks.{at_token}
 use Rattle.autfmt.proofs.Lines.{header_at-takes, header_at-again, transition_at-takes, transition_at-again}
 use Rattle.autfmt.proofs.Lines.{hide_line_at-takes, hide_line_at-again}
 
--- ---- Lines that cannot be read
-
-pub no_header : (line : List ℕ) → header_at line ≡ None → (f m n : ℕ) → ¬ Header line f m n
-no_header line e f m n h = none-some (f, m, n) (sym e ∙ header_at-again line f m n h)
-
-pub no_transition : (line : List ℕ) → transition_at line ≡ None → (s t : ℕ) (a : List ℕ) → ¬ TransitionLine line s a t
-no_transition line e s t a h = none-some (s, a, t) (sym e ∙ transition_at-again line s a t h)
-
-pub no_hide_line : (line : List ℕ) → hide_line_at line ≡ None → (a : List ℕ) → ¬ HideLine line a
-no_hide_line line e a h = none-some a (sym e ∙ hide_line_at-again line a h)
-
 -- ---- Results of Rust functions that read a line
 
 pub found_from : {X Y : Type 0} (view : X → Y) (r : Option X) (read : Option Y) (P : Y → Type 0) →
@@ -32,52 +21,59 @@ pub none_from : {X Y : Type 0} (view : X → Y) (r : Option X) (read : Option Y)
     (read ≡ None → P) → IfNone r P
 none_from view r read P e h = grind arith
 
--- ---- It is decidable whether a line is a header, a transition, or a line of a hide list
+-- ---- Reading a line
 
--- The result `read` of reading a line is `Some y` if the value y was read from the line, and `None` if the line could
--- not be read. Let P be a property of values. Suppose that `read` is `Some y` if and only if the value y has the
--- property P. Then it is decidable whether some value has the property P.
-decided : {Y : Type 0} (read : Option Y) (P : Y → Type 0) → ((y : Y) → read ≡ Some y → P y) →
-    ((y : Y) → P y → read ≡ Some y) → ((y : Y) × P y) ⊎ ((y : Y) → ¬ P y)
-decided (Some y) P takes again = inl (y, takes y refl)
-decided None P takes again = inr (λ y h. none-some y (again y h))
+-- `IsReader read P` holds if `read`, which is the result of reading a line, is `Some y` if and only if the value y has
+-- the property P.
+pub record IsReader {Y : Type 0} (read : Option Y) (P : Y → Type 0) : Type 0 where
+  pub takes : (y : Y) → read ≡ Some y → P y
+  pub again : (y : Y) → P y → read ≡ Some y
 
-pub decide_header : (line : List ℕ) → ((x : ℕ × ℕ × ℕ) × Header line x.0 x.1 x.2)
-    ⊎ ((x : ℕ × ℕ × ℕ) → ¬ Header line x.0 x.1 x.2)
-decide_header line = decided (header_at line) _ (header_at-takes line) (λ x. header_at-again line x.0 x.1 x.2)
+pub header_reader : (line : List ℕ) → IsReader (header_at line) (λ x. Header line x.0 x.1 x.2)
+header_reader line = record { takes = header_at-takes line; again = λ x. header_at-again line x.0 x.1 x.2 }
 
-pub decide_transition : (line : List ℕ) → ((x : ℕ × List ℕ × ℕ) × TransitionLine line x.0 x.1 x.2)
-    ⊎ ((x : ℕ × List ℕ × ℕ) → ¬ TransitionLine line x.0 x.1 x.2)
-decide_transition line =
-    decided (transition_at line) _ (transition_at-takes line) (λ x. transition_at-again line x.0 x.1 x.2)
+pub transition_reader : (line : List ℕ) → IsReader (transition_at line) (λ x. TransitionLine line x.0 x.1 x.2)
+transition_reader line = record { takes = transition_at-takes line; again = λ x. transition_at-again line x.0 x.1 x.2 }
 
-pub decide_hide_line : (line : List ℕ) → ((a : List ℕ) × HideLine line a) ⊎ ((a : List ℕ) → ¬ HideLine line a)
-decide_hide_line line = decided (hide_line_at line) _ (hide_line_at-takes line) (hide_line_at-again line)
+pub hide_line_reader : (line : List ℕ) → IsReader (hide_line_at line) (HideLine line)
+hide_line_reader line = record { takes = hide_line_at-takes line; again = hide_line_at-again line }
 
--- Let `read` be the result of reading a line, and let P be a property of values. Suppose that the value y has the
--- property P whenever `read` is `Some y`. If no value has the property P, then `read` is `None`.
-pub unread : {Y : Type 0} (read : Option Y) (P : Y → Type 0) → ((y : Y) → read ≡ Some y → P y) →
-    ((y : Y) → ¬ P y) → read ≡ None
-unread None P takes none = refl
-unread (Some y) P takes none = absurd (none y (takes y refl))
+module _ {Y : Type 0} {read : Option Y} {P : Y → Type 0} (reader : IsReader read P) where
+  -- If a line cannot be read, then no value has the property P.
+  pub none_read : read ≡ None → (y : Y) → ¬ P y
+  none_read e y h = none-some y (sym e ∙ reader.again y h)
+
+  -- At most one value has the property P.
+  pub one_reading : (x y : Y) → P x → P y → x ≡ y
+  one_reading x y h k = same_Some x y (sym (reader.again x h) ∙ reader.again y k)
+
+-- If no value has the property P, then the line cannot be read.
+pub unread : {Y : Type 0} {read : Option Y} {P : Y → Type 0} → IsReader read P → ((y : Y) → ¬ P y) → read ≡ None
+unread {read = None} reader none = refl
+unread {read = Some y} reader none = absurd (none y (reader.takes y refl))
+
+-- It is decidable whether some value has the property P.
+pub decided : {Y : Type 0} {read : Option Y} {P : Y → Type 0} → IsReader read P →
+    ((y : Y) × P y) ⊎ ((y : Y) → ¬ P y)
+decided {read = Some y} reader = inl (y, reader.takes y refl)
+decided {read = None} reader = inr (none_read reader refl)
 
 -- ---- Each line can be read in at most one way
 
 pub one_header : (line : List ℕ) (f m n f' m' n' : ℕ) → Header line f m n → Header line f' m' n' →
     (f ≡ f') × (m ≡ m') × (n ≡ n')
 one_header line f m n f' m' n' h k =
-    let e = same_Some (f, m, n) (f', m', n') (sym (header_at-again line f m n h) ∙ header_at-again line f' m' n' k) in
+    let e = one_reading (header_reader line) (f, m, n) (f', m', n') h k in
     (ap (λ (x : ℕ × ℕ × ℕ). x.0) e, ap (λ (x : ℕ × ℕ × ℕ). x.1) e, ap (λ (x : ℕ × ℕ × ℕ). x.2) e)
 
 pub one_transition : (line : List ℕ) (s t s' t' : ℕ) (a a' : List ℕ) → TransitionLine line s a t →
     TransitionLine line s' a' t' → (s ≡ s') × (a ≡ a') × (t ≡ t')
 one_transition line s t s' t' a a' h k =
-    let e = same_Some (s, a, t) (s', a', t') (sym (transition_at-again line s a t h)
-    ∙ transition_at-again line s' a' t' k) in
+    let e = one_reading (transition_reader line) (s, a, t) (s', a', t') h k in
     (ap (λ (x : ℕ × List ℕ × ℕ). x.0) e, ap (λ (x : ℕ × List ℕ × ℕ). x.1) e, ap (λ (x : ℕ × List ℕ × ℕ). x.2) e)
 
 pub one_hide_line : (line a a' : List ℕ) → HideLine line a → HideLine line a' → a ≡ a'
-one_hide_line line a a' h k = same_Some a a' (sym (hide_line_at-again line a h) ∙ hide_line_at-again line a' k)
+one_hide_line line = one_reading (hide_line_reader line)
 
 -- No line is both a header and a transition, because a header begins with `d` and a transition begins with a
 -- parenthesis.

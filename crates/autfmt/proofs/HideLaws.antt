@@ -17,8 +17,8 @@ use Rattle.autfmt.proofs.Lists.{AllZip-firsts, AllZip-unique}
 use Rattle.autfmt.proofs.FirstFaults.{Stops, Divided, divided, one_front, HasLongLine, not_known}
 use Rattle.autfmt.proofs.Cutting.{Divides, Divides-end, ended_go_on, line_grows}
 use Rattle.autfmt.specs.Reading.{hide_line_at}
-use Rattle.autfmt.proofs.Lines.{hide_line_at-takes, hide_line_at-again}
-use Rattle.autfmt.proofs.Decisions.{one_hide_line, decide_hide_line, unread}
+use Rattle.autfmt.proofs.Lines.{hide_line_at-again}
+use Rattle.autfmt.proofs.Decisions.{one_hide_line, hide_line_reader, decided, unread}
 use Rattle.autfmt.specs.declared.line.TheConstants.{LONGEST_LINE}
 use Rattle.autfmt.specs.declared.limits.TheConstants.{MOST_LINES}
 
@@ -42,7 +42,7 @@ HideFault-is : (k : ℕ) (line : List ℕ) (fault : Fault) → HideFault k line 
 HideFault-is k line TooManyHidden extra = rw (lt-ltb MOST_LINES k extra) refl
 HideFault-is k line (LineTooLong j) (e, few, long) = grind arith
 HideFault-is k line (BadHide j) (e, few, short, none) =
-    let nothing = unread (hide_line_at line) (HideLine line) (hide_line_at-takes line) none in
+    let nothing = unread (hide_line_reader line) none in
     rw (e, le-ltb MOST_LINES k few, le-ltb LONGEST_LINE (length line) short, nothing) refl
 HideFault-is k line _ h = absurd h
 
@@ -59,7 +59,7 @@ GoodHide-no_fault k line fault (few, a, good) bad =
 
 -- Every line of a hide list (a file with one label to hide on each line) is correct or has an error.
 pub hide_judged : (k : ℕ) (line : List ℕ) → GoodHide k line ⊎ ((fault : Fault) × HideFault k line fault)
-hide_judged k line = step (cases_lt MOST_LINES k) (cases_lt LONGEST_LINE (length line)) (decide_hide_line line)
+hide_judged k line = step (cases_lt MOST_LINES k) (cases_lt LONGEST_LINE (length line)) (decided (hide_line_reader line))
   where
     step : (MOST_LINES < k) ⊎ (k ≤ MOST_LINES) → (LONGEST_LINE < length line) ⊎ (length line ≤ LONGEST_LINE) →
         ((a : List ℕ) × HideLine line a) ⊎ ((a : List ℕ) → ¬ HideLine line a) →

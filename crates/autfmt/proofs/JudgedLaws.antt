@@ -14,24 +14,24 @@ use Rattle.autfmt.specs.Bounds.{Bounds}
 use Rattle.autfmt.specs.Texts.{lines_of, Lines, IsShort, GoodHeader, SpellsAmong}
 use Rattle.autfmt.specs.Cutter.{IsPart}
 use Rattle.autfmt.proofs.Cutting.{Divides, Divides-end, ended_go_on, line_grows, some_line}
-use Rattle.autfmt.specs.Faults.{HeaderFault, EdgeFault, BeginsWell, FirstFault, JudgedFault}
+use Rattle.autfmt.specs.Faults.{BeginsWell, FirstFault, JudgedFault}
+use Rattle.autfmt.specs.Faults.LineFault.{too_long}
 use Rattle.autfmt.specs.Faults.FirstFault.{no_line, header, behind}
 use Rattle.autfmt.proofs.Lists.{AllZip-firsts}
 use Rattle.autfmt.proofs.FirstFaults.{HasLongLine, not_known}
+use Rattle.autfmt.proofs.LineFaults.{HeaderFault-long, EdgeFault-long}
 use Rattle.autfmt.proofs.FaultLaws.{FirstFault-unique, Reads-from_lines, Reads-no_fault}
 use Rattle.autfmt.specs.declared.line.TheConstants.{LONGEST_LINE}
 
 -- If the first error of a text is `LineTooLong`, then the text has a line of more than 8192 bytes (`HasLongLine`).
 long_line : (bounds : Bounds) (text : List ℕ) (k : ℕ) → FirstFault bounds text (LineTooLong k) → HasLongLine text
 long_line bounds text k (no_line l e) = absurd cc
-long_line bounds text k (header line others l (HeaderFault.too_long e long)) = ([], others, line, l, long)
-long_line bounds text k (header line others l (HeaderFault.unread e short none)) = absurd cc
-long_line bounds text k (header line others l (HeaderFault.numbers f m n short h wrong)) = absurd wrong
+long_line bounds text k (header line others l bad) =
+    ([], others, line, l, (HeaderFault-long bounds line k bad).0)
 long_line bounds text k (behind m n es [] b next) = let e = next.1 in absurd cc
-long_line bounds text k (behind m n es (line ∷ others) b (inl (less, EdgeFault.too_long e long))) = search rules
-long_line bounds text k (behind m n es (line ∷ others) b (inl (less, EdgeFault.unread e short none))) = absurd cc
-long_line bounds text k (behind m n es (line ∷ others) b (inl (less, EdgeFault.source e d spelled high))) = absurd cc
-long_line bounds text k (behind m n es (line ∷ others) b (inl (less, EdgeFault.target e d spelled low high))) = cc
+long_line bounds text k (behind m n es (line ∷ others) b (inl (less, bad))) =
+    let long = EdgeFault-long n (length es + 2) line k bad in
+    (b.header ∷ b.lines, others, line, b.whole, long.0)
 long_line bounds text k (behind m n es (line ∷ others) b (inr (full, e))) = absurd cc
 
 -- Suppose that there is no line feed among the bytes that have been read, and that these bytes are not too long for a
@@ -42,7 +42,7 @@ pub no_judged_header : (bounds : Bounds) (given : List ℕ) (fault : Fault) → 
 no_judged_header bounds given fault part known =
     not_known (FirstFault bounds) (FirstFault-unique bounds) (long_line bounds) given [] given 1
     (λ more. refl) (All-nil IsShort) part
-    (λ line long text l. header line [] l (HeaderFault.too_long refl long)) fault known
+    (λ line long text l. header line [] l (too_long refl long)) fault known
 
 -- Suppose that the bytes that have been read so far are a correct header, correct transitions on whole lines, and then
 -- the bytes `rest`, which can be a part of the next line (`IsPart`). Suppose also that the header declares further
@@ -62,11 +62,11 @@ no_judged_fault bounds given line lines rest f m n es fault divides good edges f
         All-cons IsShort line lines good.short
         (AllZip-firsts (SpellsAmong n) IsShort (λ l e spelled. spelled.0.0) lines es edges)
 
-    too_long : length es < m → (long : List ℕ) → LONGEST_LINE < length long → (text : List ℕ) →
+    next_long : length es < m → (long : List ℕ) → LONGEST_LINE < length long → (text : List ℕ) →
         Lines text ((line ∷ lines) ++ long ∷ []) → FirstFault bounds text (LineTooLong (length es + 2))
-    too_long less long big text l =
+    next_long less long big text l =
         let b : BeginsWell bounds text m n es (long ∷ []) = search rules in
-        behind m n es (long ∷ []) b (inl (less, EdgeFault.too_long refl big))
+        behind m n es (long ∷ []) b (inl (less, too_long refl big))
 
     at_end : length es ≡ m → length rest ≡ 0 → ⊥
     at_end full none =
@@ -77,7 +77,7 @@ no_judged_fault bounds given line lines rest f m n es fault divides good edges f
     step : (length es < m) ⊎ (m ≤ length es) → ⊥
     step (inl less) =
         not_known (FirstFault bounds) (FirstFault-unique bounds) (long_line bounds) given (line ∷ lines) rest
-        (length es + 2) divides shorts part (too_long less) fault known
+        (length es + 2) divides shorts part (next_long less) fault known
     step (inr full) = ⊎_elim (λ less. omega arith) (at_end (omega arith)) unjudged
 
 module _ (bounds : Bounds) (given more : List ℕ) where
@@ -95,19 +95,13 @@ module _ (bounds : Bounds) (given more : List ℕ) where
   -- further bytes are appended to the input.
   pub long_stays : (k : ℕ) → FirstFault bounds given (LineTooLong k) → FirstFault bounds (given ++ more) (LineTooLong k)
   long_stays k (no_line l e) = absurd cc
-  long_stays k (header line others l (HeaderFault.too_long e long)) =
+  long_stays k (header line others l bad) =
       let (tail, others', l') = line_grows given more [] others line l in
-      header (line ++ tail) others' l' (HeaderFault.too_long e (omega (arith, length-append line tail)))
-  long_stays k (header line others l (HeaderFault.unread e short none)) = absurd cc
-  long_stays k (header line others l (HeaderFault.numbers f m n short h wrong)) = absurd wrong
+      header (line ++ tail) others' l' ((HeaderFault-long bounds line k bad).1 tail)
   long_stays k (behind m n es [] b next) = let e = next.1 in absurd cc
-  long_stays k (behind m n es (line ∷ others) b (inl (less, EdgeFault.too_long e long))) =
+  long_stays k (behind m n es (line ∷ others) b (inl (less, bad))) =
       let (tail, others', b') = goes_on_well m n es line others b in
-      behind m n es ((line ++ tail) ∷ others') b'
-      (inl (less, EdgeFault.too_long e (omega (arith, length-append line tail))))
-  long_stays k (behind m n es (line ∷ others) b (inl (less, EdgeFault.unread e short none))) = absurd cc
-  long_stays k (behind m n es (line ∷ others) b (inl (less, EdgeFault.source e d spelled high))) = absurd cc
-  long_stays k (behind m n es (line ∷ others) b (inl (less, EdgeFault.target e d spelled low high))) = absurd cc
+      behind m n es ((line ++ tail) ∷ others') b' (inl (less, (EdgeFault-long n (length es + 2) line k bad).1 tail))
   long_stays k (behind m n es (line ∷ others) b (inr (full, e))) = absurd cc
 
   -- Suppose that the first error of an input is that a line follows the last transition that the header declares. Then

@@ -1,74 +1,68 @@
--- Every line of an input for a system is correct or has exactly one error.
-use Rattle.std.proofs.Common.{◌≡◌, ◌⊎◌, ℕ, cond, eqb, ltb, leb, List, length, Option, None, Some, refl, sym, ◌∙◌, subst}
-use Rattle.std.proofs.Common.{inl, inr, arith}
-use Rattle.std.proofs.lemmas.Bool.{cases_lt, cases_eq, lt-ltb, le-ltb}
-use Rattle.std.proofs.lemmas.Option.{same_Some, none-some}
-use Rattle.std.proofs.lemmas.Bool.Decides.{nat_tests}
+-- Every line of an input is correct or has exactly one error.
+use Rattle.std.proofs.Common.{◌≡◌, ◌⊎◌, ℕ, ◌<◌, ◌≤◌, List, ◌++◌, length, Option, None, Some, refl, inl, inr, arith}
+use Rattle.std.proofs.Common.{subst}
+use Rattle.std.proofs.lemmas.Bool.{cases_lt}
+use Rattle.std.proofs.lemmas.List.{length-append}
 use Rattle.autfmt.specs.declared.fault.Fault.{Fault}
-use Rattle.autfmt.specs.declared.fault.Fault.TheVariants.{BadHeader, FirstState, NoStates, TooManyStates}
-use Rattle.autfmt.specs.declared.fault.Fault.TheVariants.{TooManyTransitions, LineTooLong, BadEdge, SourceRange}
-use Rattle.autfmt.specs.declared.fault.Fault.TheVariants.{TargetRange}
+use Rattle.autfmt.specs.declared.fault.Fault.TheVariants.{BadHeader, LineTooLong, BadEdge}
 use Rattle.theory.specs.System.{Transition}
 use Rattle.autfmt.specs.Bounds.{Bounds}
-use Rattle.autfmt.specs.Grammar.{TransitionLine}
-use Rattle.autfmt.specs.Texts.{GoodHeader, SpellsTransition, SpellsAmong}
-use Rattle.autfmt.specs.Faults.{NumbersFault, HeaderFault, EdgeFault}
-use Rattle.autfmt.proofs.Lines.{header_at-takes, header_at-again, transition_at-takes, transition_at-again}
+use Rattle.autfmt.specs.Texts.{IsShort, GoodHeader, SpellsAmong}
+use Rattle.autfmt.specs.Faults.{LineFault, HeaderFault, numbers_fault, EdgeFault, ends_fault}
+use Rattle.autfmt.specs.Faults.LineFault.{too_long, unread, wrong}
 use Rattle.autfmt.proofs.Lines.{transition-label}
-use Rattle.autfmt.specs.Reading.{header_at, transition_at}
-use Rattle.autfmt.proofs.Decisions.{one_header, decide_header, decide_transition, unread}
+use Rattle.autfmt.proofs.Decisions.{IsReader, one_reading, decided, header_reader, transition_reader, one_header}
 use Rattle.autfmt.specs.declared.line.TheConstants.{LONGEST_LINE}
 
--- `wrong_numbers bounds f m n` is the error in the numbers of a header that declares the first state f, m transitions
--- and n states. The result is `None` if these numbers are correct and within the limits `bounds`.
-abbrev pub wrong_numbers : Bounds → ℕ → ℕ → ℕ → Option Fault
-wrong_numbers bounds f m n =
-    cond (eqb n 0) (Some NoStates)
-    (cond (leb n f) (Some FirstState)
-    (cond (ltb bounds.states n) (Some TooManyStates) (cond (ltb bounds.transitions m) (Some TooManyTransitions) None)))
+-- Assume that the value x is the result of reading a line (`read`) if and only if x is the contents of the line
+-- (`IsRead x`).
+module _ {X : Type 0} {read : Option X} {IsRead : X → Type 0} (reader : IsReader read IsRead)
+    {fault_in : X → Option Fault} {k : ℕ} {bad : Fault} {line : List ℕ} where
+  pub LineFault-unique : (f g : Fault) → LineFault IsRead fault_in k bad line f →
+      LineFault IsRead fault_in k bad line g → f ≡ g
+  LineFault-unique f g a b = let one = one_reading reader in grind (arith, one)
 
--- If the numbers that a header declares have an error, then the function `wrong_numbers` returns this error.
-numbers_wrong : (bounds : Bounds) (f m n : ℕ) (fault : Fault) → NumbersFault bounds f m n fault →
-    wrong_numbers bounds f m n ≡ Some fault
-numbers_wrong bounds f m n fault h = grind arith
+  -- If a line is not too long, and its contents have no error, then no error applies to the line.
+  pub LineFault-not_good : (x : X) (fault : Fault) → IsShort line → IsRead x → fault_in x ≡ None →
+      LineFault IsRead fault_in k bad line fault → ⊥
+  LineFault-not_good x fault short is none bad = let one = one_reading reader in grind (arith, one)
 
--- If a header is correct, then the numbers that it declares have no error.
-pub good_numbers : (bounds : Bounds) (line : List ℕ) (f m n : ℕ) → GoodHeader bounds line f m n →
-    wrong_numbers bounds f m n ≡ None
-good_numbers bounds line f m n g = grind arith
+-- Every line is correct or has an error.
+pub line_judged : {X : Type 0} {read : Option X} {IsRead : X → Type 0} → IsReader read IsRead →
+    (fault_in : X → Option Fault) (k : ℕ) (bad : Fault) (line : List ℕ) →
+    ((x : X) × IsShort line × IsRead x × (fault_in x ≡ None)) ⊎ ((fault : Fault) × LineFault IsRead fault_in k bad line
+    fault)
+line_judged {X = X} {IsRead = IsRead} reader fault_in k bad line = elim (cases_lt LONGEST_LINE (length line)) [
+  | inl long ↦ inr (LineTooLong k, too_long refl long)
+  | inr short ↦ elim (decided reader) [
+    | inr none ↦ inr (bad, unread refl short none)
+    | inl (x, is) ↦ judged x short is (fault_in x) refl
+  ]
+]
+  where
+    judged : (x : X) → IsShort line → IsRead x → (found : Option Fault) → fault_in x ≡ found →
+        ((x : X) × IsShort line × IsRead x × (fault_in x ≡ None)) ⊎ ((fault : Fault) × LineFault IsRead fault_in k bad
+        line fault)
+    judged x short is None e = inl (x, short, is, e)
+    judged x short is (Some fault) e = inr (fault, wrong x short is e)
 
--- `header_fault bounds line` is the error of line 1, or `None` if line 1 is a correct header.
-abbrev header_fault : Bounds → List ℕ → Option Fault
-header_fault bounds line =
-    cond (ltb LONGEST_LINE (length line)) (Some (LineTooLong 1))
-    (elim (header_at line) [ None ↦ Some BadHeader | Some x ↦ wrong_numbers bounds x.0 x.1 x.2 ])
+-- ---- Line 1
 
-HeaderFault-is : (bounds : Bounds) (line : List ℕ) (fault : Fault) → HeaderFault bounds line fault →
-    header_fault bounds line ≡ Some fault
-HeaderFault-is bounds line fault (HeaderFault.too_long e l) = rw (e, lt-ltb LONGEST_LINE (length line) l) refl
-HeaderFault-is bounds line fault (HeaderFault.unread e s none) =
-    rw (
-      e,
-      le-ltb LONGEST_LINE (length line) s,
-      unread (header_at line) _ (header_at-takes line)
-          (λ x. none x.0 x.1 x.2),
-    ) refl
-HeaderFault-is bounds line fault (HeaderFault.numbers f m n s h w) =
-    rw (le-ltb LONGEST_LINE (length line) s, header_at-again line f m n h) (numbers_wrong bounds f m n fault w)
+-- If the numbers of a header have no error, then they are within the limits, and the first state is less than the number
+-- of states.
+numbers_right : (bounds : Bounds) (f m n : ℕ) → numbers_fault bounds f m n ≡ None →
+    (f < n) × (n ≤ bounds.states) × (m ≤ bounds.transitions)
+numbers_right bounds f m n none = grind arith
 
 pub HeaderFault-unique : (bounds : Bounds) (line : List ℕ) (f g : Fault) → HeaderFault bounds line f →
     HeaderFault bounds line g → f ≡ g
-HeaderFault-unique bounds line f g a b =
-    same_Some f g (sym (HeaderFault-is bounds line f a) ∙ HeaderFault-is bounds line g b)
+HeaderFault-unique bounds line = LineFault-unique (header_reader line)
 
 -- If line 1 is a correct header (`GoodHeader`), then no error applies to line 1 (`HeaderFault`).
 pub GoodHeader-no_fault : (bounds : Bounds) (line : List ℕ) (f m n : ℕ) (fault : Fault) → GoodHeader bounds line f m n →
     HeaderFault bounds line fault → ⊥
-GoodHeader-no_fault bounds line f m n fault good bad =
-    let fine : header_fault bounds line ≡ None =
-    rw (le-ltb LONGEST_LINE (length line) good.short, header_at-again line f m n good.header)
-    (good_numbers bounds line f m n good) in
-    none-some fault (sym fine ∙ HeaderFault-is bounds line fault bad)
+GoodHeader-no_fault bounds line f m n fault good =
+    LineFault-not_good (header_reader line) (f, m, n) fault good.short good.header (grind arith)
 
 pub GoodHeader-unique : (bounds : Bounds) (line : List ℕ) (f m n f' m' n' : ℕ) → GoodHeader bounds line f m n →
     GoodHeader bounds line f' m' n' → (f ≡ f') × (m ≡ m') × (n ≡ n')
@@ -87,80 +81,54 @@ same_header bounds line f m n f' m' n' P g g' h =
 -- Line 1 is a correct header or has an error.
 pub header_judged : (bounds : Bounds) (line : List ℕ) →
     ((f : ℕ) × (m : ℕ) × (n : ℕ) × GoodHeader bounds line f m n) ⊎ ((fault : Fault) × HeaderFault bounds line fault)
-header_judged bounds line = elim (cases_lt LONGEST_LINE (length line)) [
-  | inl l ↦ inr (LineTooLong 1, HeaderFault.too_long refl l)
-  | inr s ↦ elim (decide_header line) [
-    | inr none ↦ inr (BadHeader, HeaderFault.unread refl s (λ f m n. none (f, m, n)))
-    | inl ((f, m, n), h) ↦ elim (cases_eq n 0) [
-      | inl e ↦ inr (NoStates, HeaderFault.numbers f m n s h e)
-      | inr some ↦ elim (cases_lt f n) [
-        | inr high ↦ inr (FirstState, HeaderFault.numbers f m n s h (omega arith, high))
-        | inl low ↦ elim (cases_lt bounds.states n) [
-          | inl many ↦ inr (TooManyStates, HeaderFault.numbers f m n s h (low, many))
-          | inr few ↦ elim (cases_lt bounds.transitions m) [
-            | inl many ↦ inr (TooManyTransitions, HeaderFault.numbers f m n s h (low, few, many))
-            | inr few' ↦ inl (f, m, n, record { short = s; header = h; first = low; states = few; transitions = few' })
-          ]
-        ]
-      ]
+header_judged bounds line =
+    elim (line_judged (header_reader line) (λ x. numbers_fault bounds x.0 x.1 x.2) 1 BadHeader line) [
+      | inr bad ↦ inr bad
+      | inl ((f, m, n), short, h, none) ↦
+          let (low, few, few') = numbers_right bounds f m n none in
+          inl (f, m, n, record { short = short; header = h; first = low; states = few; transitions = few' })
     ]
-  ]
-]
 
--- `wrong_ends n k s t` is the error of the transition on line k if its source s or its target t is not less than the
--- number n of states. The result is `None` if both s and t are less than n.
-abbrev wrong_ends : ℕ → ℕ → ℕ → ℕ → Option Fault
-wrong_ends n k s t = cond (leb n s) (Some (SourceRange k)) (cond (leb n t) (Some (TargetRange k)) None)
+-- If the error of line 1 is `LineTooLong`, then line 1 is too long, and this error remains its error if further bytes
+-- are appended to the line.
+pub HeaderFault-long : (bounds : Bounds) (line : List ℕ) (k : ℕ) → HeaderFault bounds line (LineTooLong k) →
+    (LONGEST_LINE < length line) × ((tail : List ℕ) → HeaderFault bounds (line ++ tail) (LineTooLong k))
+HeaderFault-long bounds line k bad =
+    let (e, long) : (LineTooLong k ≡ LineTooLong 1) × (LONGEST_LINE < length line) = grind arith in
+    (long, λ tail. too_long e (omega (arith, length-append line tail)))
 
--- `edge_fault n k line` is the error of line k, or `None` if the line is a transition of a system with n states.
-abbrev edge_fault : ℕ → ℕ → List ℕ → Option Fault
-edge_fault n k line =
-    cond (ltb LONGEST_LINE (length line)) (Some (LineTooLong k))
-    (elim (transition_at line) [ None ↦ Some (BadEdge k) | Some x ↦ wrong_ends n k x.0 x.2 ])
+-- ---- The lines after line 1
 
-module _ (n k : ℕ) (line : List ℕ) where
-  -- Suppose that the line denotes a transition and is not too long. Then only the source and the target of this
-  -- transition can be incorrect (`wrong_ends`).
-  spelled_fault : (e : Transition) → SpellsTransition line e → edge_fault n k line ≡ wrong_ends n k e.source e.target
-  spelled_fault e (s, h) =
-      rw (le-ltb LONGEST_LINE (length line) s, transition_at-again line e.source e.label e.target h) refl
+pub EdgeFault-unique : (n k : ℕ) (line : List ℕ) (f g : Fault) → EdgeFault n k line f → EdgeFault n k line g → f ≡ g
+EdgeFault-unique n k line = LineFault-unique (transition_reader line)
 
-  EdgeFault-is : (fault : Fault) → EdgeFault n k line fault → edge_fault n k line ≡ Some fault
-  EdgeFault-is fault (EdgeFault.too_long e l) = rw (e, lt-ltb LONGEST_LINE (length line) l) refl
-  EdgeFault-is fault (EdgeFault.unread e s none) =
-      let nothing = unread (transition_at line) (λ x. TransitionLine line x.0 x.1 x.2) (transition_at-takes line)
-      (λ x h. none (record { source = x.0; label = x.1; target = x.2 }) (s, h)) in
-      rw (e, le-ltb LONGEST_LINE (length line) s, nothing) refl
-  EdgeFault-is fault (EdgeFault.source e d spelled high) = spelled_fault d spelled ∙ rw e (grind (arith, nat_tests))
-  EdgeFault-is fault (EdgeFault.target e d spelled low high) = spelled_fault d spelled ∙ rw e (grind (arith, nat_tests))
-
-  pub EdgeFault-unique : (f g : Fault) → EdgeFault n k line f → EdgeFault n k line g → f ≡ g
-  EdgeFault-unique f g a b = same_Some f g (sym (EdgeFault-is f a) ∙ EdgeFault-is g b)
-
-  -- If the line denotes a transition whose source and target are less than the number n of states, then no error
-  -- applies to the line (`EdgeFault`).
-  pub GoodEdge-no_fault : (e : Transition) (fault : Fault) → SpellsAmong n line e → EdgeFault n k line fault → ⊥
-  GoodEdge-no_fault e fault good bad =
-      let right : wrong_ends n k e.source e.target ≡ None = grind (arith, nat_tests) in
-      none-some fault (sym right ∙ sym (spelled_fault e good.0) ∙ EdgeFault-is fault bad)
+-- If the line denotes a transition whose source and target are less than the number n of states, then no error
+-- applies to the line (`EdgeFault`).
+pub GoodEdge-no_fault : (n k : ℕ) (line : List ℕ) (e : Transition) (fault : Fault) → SpellsAmong n line e →
+    EdgeFault n k line fault → ⊥
+GoodEdge-no_fault n k line e fault good =
+    LineFault-not_good (transition_reader line) (e.source, e.label, e.target) fault good.0.0 good.0.1 (grind arith)
 
 -- Every line after line 1 denotes a transition whose source and target are less than the number n of states, or has an
 -- error.
 pub edge_judged :
     (n k : ℕ) (line : List ℕ) → ((e : Transition) × SpellsAmong n line e) ⊎ ((fault : Fault) × EdgeFault n k line fault)
-edge_judged n k line = elim (cases_lt LONGEST_LINE (length line)) [
-  | inl l ↦ inr (LineTooLong k, EdgeFault.too_long refl l)
-  | inr s ↦ elim (decide_transition line) [
-    | inr none ↦ inr (BadEdge k, EdgeFault.unread refl s (λ d spelled. none (d.source, d.label, d.target) spelled.1))
-    | inl ((source, a, target), h) ↦
-        let e : Transition = record { source = source; label = a; target = target } in
-        let label = transition-label line source a target h in
-        elim (cases_lt source n) [
-          | inr high ↦ inr (SourceRange k, EdgeFault.source refl e (s, h) high)
-          | inl low ↦ elim (cases_lt target n) [
-            | inr high ↦ inr (TargetRange k, EdgeFault.target refl e (s, h) low high)
-            | inl low' ↦ inl (e, ((s, h), record { source = low; label = label; target = low' }))
-          ]
-        ]
-  ]
-]
+edge_judged n k line =
+    elim (line_judged (transition_reader line) (λ x. ends_fault n k x.0 x.2) k (BadEdge k) line) [
+      | inr bad ↦ inr bad
+      | inl ((s, a, t), short, h, none) ↦
+          let (low, low') : (s < n) × (t < n) = grind arith in
+          let label = transition-label line s a t h in
+          inl (
+            record { source = s; label = a; target = t },
+            ((short, h), record { source = low; label = label; target = low' }),
+          )
+    ]
+
+-- If the error of a line after line 1 is `LineTooLong`, then this line is too long, and this error remains its error if
+-- further bytes are appended to the line.
+pub EdgeFault-long : (n k : ℕ) (line : List ℕ) (j : ℕ) → EdgeFault n k line (LineTooLong j) →
+    (LONGEST_LINE < length line) × ((tail : List ℕ) → EdgeFault n k (line ++ tail) (LineTooLong j))
+EdgeFault-long n k line j bad =
+    let (e, long) : (LineTooLong j ≡ LineTooLong k) × (LONGEST_LINE < length line) = grind arith in
+    (long, λ tail. too_long e (omega (arith, length-append line tail)))

@@ -15,7 +15,7 @@ use Rattle.autfmt.specs.declared.judge.Promise.{Promise}
 use Rattle.autfmt.specs.Bounds.{Bounds}
 use Rattle.autfmt.specs.Grammar.{TransitionLine}
 use Rattle.autfmt.specs.Texts.{lines_of, Lines, GoodHeader, Reads}
-use Rattle.autfmt.specs.Faults.{HeaderFault, EdgeFault, NextFault, FirstFault}
+use Rattle.autfmt.specs.Faults.{LineFault, HeaderFault, EdgeFault, NextFault, FirstFault}
 use Rattle.autfmt.specs.Faults.FirstFault.{header, behind}
 use Rattle.autfmt.specs.Cutter.{Cutting, HasCut, CutsLine, CutsEnd, BeginsTooLong, IsPart}
 use Rattle.autfmt.specs.Held.{Holds}
@@ -78,7 +78,7 @@ module _ (bounds : Bounds) (old : Cutting) (got : List ℕ) (rest : Option (List
       (λ more told.
       let (line, others, big, l) =
       HasCut-too_long [] got [] old (HasCut-fresh old new) (fresh_goes_on old new) more long in
-      header line others l (HeaderFault.too_long refl big)))
+      header line others l (LineFault.too_long refl big)))
 
   -- If the line splitter has split off line 1, then the result of checking this line is correct: either line 1 is a
   -- correct header, or the result is the first error of the input.
@@ -208,7 +208,7 @@ module _ {bounds : Bounds} {given : List ℕ} {old : Cutting} {p : Promise} {es 
     transition_too_long promised goes_on long =
         refused_behind (LineTooLong (found + 2)) tt (λ more told.
         let (line, others, big, l) = HasCut-too_long given got before old so_far.cut goes_on more long in
-        (line ∷ others, l, inl (promised, EdgeFault.too_long refl big)))
+        (line ∷ others, l, inl (promised, LineFault.too_long refl big)))
 
     -- If there is a line after the last transition that the header declares, then the reader may return `ExtraText`.
     pub text_behind : found ≡ p.transitions → (old.over ≡ true → ⊥) → 1 ≤ length (old.ahead ++ got) →

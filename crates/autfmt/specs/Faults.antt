@@ -2,7 +2,8 @@
 -- the first error of the input is the error of its first incorrect line. If all lines are correct but transitions are
 -- missing, the first error is that transitions are missing. If the input has no lines, the first error is that it has
 -- no header. An input has at most one first error.
-use Rattle.std.specs.Prelude.{◌≡◌, ◌⊎◌, ℕ, ◌+◌, ◌<◌, ◌≤◌, List, [], ◌∷◌, ◌++◌, length}
+use Rattle.std.specs.Prelude.{◌≡◌, ◌⊎◌, ℕ, ◌+◌, ◌<◌, ◌==◌, nat_lt, nat_le, List, [], ◌∷◌, ◌++◌, length, Option, Some}
+use Rattle.std.specs.Prelude.{None, if◌then◌else◌}
 use Rattle.std.specs.List.{AllZip}
 use Rattle.autfmt.specs.declared.fault.Fault.{Fault}
 use Rattle.autfmt.specs.declared.fault.Fault.TheVariants.{BadHeader, FirstState, NoStates, TooManyStates}
@@ -11,35 +12,48 @@ use Rattle.autfmt.specs.declared.fault.Fault.TheVariants.{TargetRange, ExtraText
 use Rattle.autfmt.specs.declared.line.TheConstants.{LONGEST_LINE}
 use Rattle.autfmt.specs.Bounds.{Bounds}
 use Rattle.theory.specs.System.{Transition}
-use Rattle.autfmt.specs.Grammar.{Header}
-use Rattle.autfmt.specs.Texts.{Lines, IsShort, GoodHeader, SpellsTransition, SpellsAmong}
+use Rattle.autfmt.specs.Grammar.{Header, TransitionLine}
+use Rattle.autfmt.specs.Texts.{Lines, IsShort, GoodHeader, SpellsAmong}
 
--- `NumbersFault bounds f m n fault` holds if `fault` is the error in the numbers of a header. The header declares the
--- first state f, m transitions and n states, and `bounds` are the limits on m and n. A header can have several of the
--- errors below. In this case, `fault` is the first of these errors, in the order of the equations.
-abbrev pub NumbersFault : Bounds → ℕ → ℕ → ℕ → Fault → Type 0
-NumbersFault bounds f m n NoStates = n ≡ 0
-NumbersFault bounds f m n FirstState = (1 ≤ n) × (n ≤ f)
-NumbersFault bounds f m n TooManyStates = (f < n) × (bounds.states < n)
-NumbersFault bounds f m n TooManyTransitions = (f < n) × (n ≤ bounds.states) × (bounds.transitions < m)
-NumbersFault bounds f m n _ = ⊥
+-- `LineFault IsRead fault_in k bad line fault` holds if `fault` is the error of `line`, which is line k of an input. The
+-- contents of a correct line are a value x such that `IsRead x` holds. There are three possible errors. First, the line
+-- has more than 8192 bytes (`LONGEST_LINE`). Second, the line has no contents. In this case, `fault` is the error `bad`.
+-- Third, the line has the contents x, but there is an error in x. In this case, the function `fault_in` returns the
+-- error.
+pub data LineFault {X : Type 0} (IsRead : X → Type 0) (fault_in : X → Option Fault) (k : ℕ) (bad : Fault)
+    (line : List ℕ) (fault : Fault) : Type 0 where
+  too_long : fault ≡ LineTooLong k → LONGEST_LINE < length line → LineFault IsRead fault_in k bad line fault
+  unread : fault ≡ bad → IsShort line → ((x : X) → ¬ IsRead x) → LineFault IsRead fault_in k bad line fault
+  wrong : (x : X) → IsShort line → IsRead x → fault_in x ≡ Some fault → LineFault IsRead fault_in k bad line fault
+
+-- `numbers_fault bounds f m n` is the error in the numbers of a header, or `None` if these numbers have no error. The
+-- header declares the first state f, m transitions and n states, and `bounds` are the limits on m and n. If the numbers
+-- have several of the errors below, the result is the first of these errors.
+abbrev pub numbers_fault : Bounds → ℕ → ℕ → ℕ → Option Fault
+numbers_fault bounds f m n =
+    if n == 0 then Some NoStates else
+    if nat_le n f then Some FirstState else
+    if nat_lt bounds.states n then Some TooManyStates else
+    if nat_lt bounds.transitions m then Some TooManyTransitions else None
 
 -- `HeaderFault bounds line fault` holds if `line`, which is line 1 of an input, is not a correct header, and `fault` is
 -- the error of this line. The limits `bounds` restrict the numbers that a header may declare.
-pub data HeaderFault (bounds : Bounds) (line : List ℕ) (fault : Fault) : Type 0 where
-  too_long : fault ≡ LineTooLong 1 → LONGEST_LINE < length line → HeaderFault bounds line fault
-  unread : fault ≡ BadHeader → IsShort line → ((f m n : ℕ) → ¬ Header line f m n) → HeaderFault bounds line fault
-  numbers : (f m n : ℕ) → IsShort line → Header line f m n → NumbersFault bounds f m n fault →
-      HeaderFault bounds line fault
+abbrev pub HeaderFault : Bounds → List ℕ → Fault → Type 0
+HeaderFault bounds line fault =
+    LineFault {X = ℕ × ℕ × ℕ} (λ x. Header line x.0 x.1 x.2) (λ x. numbers_fault bounds x.0 x.1 x.2) 1 BadHeader line
+    fault
+
+-- `ends_fault n k s t` is the error of the transition on line k if its source s or its target t is not a state of a
+-- system with n states. The result is `None` if s and t are states of the system, which are the numbers less than n.
+abbrev pub ends_fault : ℕ → ℕ → ℕ → ℕ → Option Fault
+ends_fault n k s t = if nat_le n s then Some (SourceRange k) else if nat_le n t then Some (TargetRange k) else None
 
 -- `EdgeFault n k line fault` holds if `line`, which is line k of an input, is not a transition between states of a
 -- system with n states, and `fault` is the error of this line.
-pub data EdgeFault (n k : ℕ) (line : List ℕ) (fault : Fault) : Type 0 where
-  too_long : fault ≡ LineTooLong k → LONGEST_LINE < length line → EdgeFault n k line fault
-  unread : fault ≡ BadEdge k → IsShort line → ((e : Transition) → ¬ SpellsTransition line e) → EdgeFault n k line fault
-  source : fault ≡ SourceRange k → (e : Transition) → SpellsTransition line e → n ≤ e.source → EdgeFault n k line fault
-  target : fault ≡ TargetRange k → (e : Transition) → SpellsTransition line e → e.source < n → n ≤ e.target →
-      EdgeFault n k line fault
+abbrev pub EdgeFault : ℕ → ℕ → List ℕ → Fault → Type 0
+EdgeFault n k line fault =
+    LineFault {X = ℕ × List ℕ × ℕ} (λ x. TransitionLine line x.0 x.1 x.2) (λ x. ends_fault n k x.0 x.2) k (BadEdge k)
+    line fault
 
 -- `BeginsWell bounds text m n es others` holds if the input `text` consists of the following lines. The first line is a
 -- correct header. This header declares m transitions and n states, and these two numbers are within the limits

@@ -2,7 +2,7 @@ use Rattle.std.proofs.Common.{rules}
 use Rattle.theory.specs.System.{IsLabel}
 use Rattle.autfmt.specs.Reading.{hide_line_at}
 use Rattle.autfmt.proofs.Lines.{hide_line_at-takes, hide_line-label}
-use Rattle.autfmt.proofs.Decisions.{no_hide_line, found_from, none_from}
+use Rattle.autfmt.proofs.Decisions.{hide_line_reader, none_read, found_from, none_from}
 use Rattle.autfmt.proofs.token.hide_line_of.Goals as goal
 
 pub returns-clause-found : goal.returns-clause-found
@@ -15,4 +15,4 @@ returns-clause-label c =
     (λ a e. hide_line-label line a (hide_line_at-takes line a e))
 
 pub returns-clause-none : goal.returns-clause-none
-returns-clause-none c = search (rules, none_from, c.hide_line_in.ensures, no_hide_line)
+returns-clause-none c = none_from _ _ _ _ c.hide_line_in.ensures (none_read (hide_line_reader c.args.line.now))

@@ -1,7 +1,7 @@
 use Rattle.std.proofs.Common.{rules, arith}
 use Rattle.std.proofs.lemmas.Grind.{common_steps}
 use Rattle.autfmt.proofs.Lines.{transition_at-takes, transition-label}
-use Rattle.autfmt.proofs.Decisions.{no_transition, found_from, none_from}
+use Rattle.autfmt.proofs.Decisions.{transition_reader, none_read, found_from, none_from}
 use Rattle.autfmt.proofs.token.transition_of.Goals as goal
 
 pub returns-clause-found : goal.returns-clause-found
@@ -15,4 +15,6 @@ pub returns-clause-numbers : goal.returns-clause-numbers
 returns-clause-numbers c = search (rules, transition_at-takes)
 
 pub returns-clause-none : goal.returns-clause-none
-returns-clause-none c = search (rules, none_from, c.transition_in.ensures, no_transition)
+returns-clause-none c =
+    none_from _ _ _ _ c.transition_in.ensures
+    (λ none s t a. none_read (transition_reader c.args.line.now) none (s, a, t))
