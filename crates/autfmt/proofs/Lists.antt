@@ -1,22 +1,17 @@
 -- This file contains general lemmas about lists, about prefixes of lists, and about two lists that are related element
 -- by element.
-use Rattle.std.proofs.Common.{rules, ◌≡◌, ℕ, ◌+◌, ◌-◌, ◌≤◌, List, [], ◌∷◌, ◌++◌, All, length, take, drop, refl, sym}
-use Rattle.std.proofs.Common.{◌∙◌, ap, ap₂, arith}
-use Rattle.std.proofs.lemmas.List.{append_assoc, take-append-drop, length-drop, take-take, length-take-le}
+use Rattle.std.proofs.Common.{rules, ◌≡◌, ℕ, ◌+◌, ◌-◌, ◌≤◌, List, [], ◌∷◌, ◌++◌, All, length, take, drop, refl, ap₂}
+use Rattle.std.proofs.Common.{arith}
+use Rattle.std.proofs.lemmas.List.{append_assoc, take-append-drop, take_rest, take-take, length-take-le}
 use Rattle.std.specs.List.{AllZip}
 use Rattle.std.proofs.lemmas.List.Elements.{All-nil, All-cons, All-head, All-tail}
-use Rattle.std.proofs.Math.Seq.{take-length, take-append-add}
-
--- If the first n elements of the list xs are dropped, then `length xs - n` elements remain. So taking `length xs - n`
--- elements of the remaining list takes all of them.
-pub rest_of : {A : Type 0} → (n : ℕ) (xs : List A) → take (length xs - n) (drop n xs) ≡ drop n xs
-rest_of n xs = ap (λ k. take k (drop n xs)) (sym (length-drop n xs)) ∙ take-length (drop n xs)
+use Rattle.std.proofs.Math.Seq.{take-append-add}
 
 -- Suppose that a list consists of the parts `front` and `rest`. Then the list stays the same if the first n elements of
 -- `rest` are moved to the end of `front`.
 pub front_more : {A : Type 0} → (front rest all : List A) (n : ℕ) → all ≡ front ++ rest →
     all ≡ front ++ take n rest ++ take (length rest - n) (drop n rest)
-front_more front rest all n is = grind (arith, take-append-drop, append_assoc, rest_of)
+front_more front rest all n is = grind (arith, take-append-drop, append_assoc, take_rest)
 
 -- Suppose that the list `run` was written into a list from the index `at` on. Then the elements of the new list from
 -- the index `at` on begin with the first n elements of `run`.

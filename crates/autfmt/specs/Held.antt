@@ -34,12 +34,12 @@ pub record CanAdd (held : Held) (promised : ℕ) : Type 0 where
 abbrev pub AreShown : List (List ℕ) → (labels : List (List ℕ)) → Type 0
 AreShown H labels = (k : ℕ) → k < length labels → hidden_label H (text_of labels k) ≡ text_of labels k
 
--- `Holds H n held es` holds if all three of the following conditions hold. First, the triples stored in `held` denote
+-- `Holds H n held es` holds if all four of the following conditions hold. First, the triples stored in `held` denote
 -- the transitions in the list es, after the labels in the list H have been hidden. Second, these triples are
--- transitions of a system with n states. Third, the label table of `held` contains only labels of stored triples, and
--- at most as many labels as there are stored triples.
+-- transitions of a system with n states. Third, the label table of `held` contains only labels of stored triples.
+-- Fourth, hiding the labels in H again changes no label in this table.
 pub record Holds (H : List (List ℕ)) (n : ℕ) (held : Held) (es : List Transition) : Type 0 where
   pub hidden : map (transition_of held.labels) held.transitions ≡ map (hidden_transition H) es
   pub among : All (IsTriple (length held.labels) n) held.transitions
   pub carried : (k : ℕ) → k < length held.labels → (e : Triple) × Contains held.transitions e × (label_of e ≡ k)
-  pub few_labels : length held.labels ≤ length held.transitions
+  pub shown : AreShown H held.labels

@@ -2,7 +2,7 @@ use Rattle.std.proofs.Common.{◌≡◌, List, length, inl, arith}
 use Rattle.std.proofs.lemmas.Result.{err_from_is_err_and}
 use Rattle.theory.specs.System.{Transition, IsAmong}
 use Rattle.autfmt.specs.Held.{Holds}
-use Rattle.autfmt.proofs.Holding.{Holds-add, Holds-shown}
+use Rattle.autfmt.proofs.Holding.{Holds-add}
 use Rattle.autfmt.proofs.ReaderSteps.{transition_too_long, transition_missing, transition_failed, transition_good}
 use Rattle.autfmt.proofs.ReaderSteps.{transition_faulty, transition_refused, goes_on, count_held}
 use Rattle.autfmt.proofs.reader.read_transition.Given.{Over}
@@ -98,6 +98,6 @@ returns-clause-transition g c =
       s.1,
       λ bounds given es standing.
           let so_far = transition_good s.0 standing.0 _ e (goes_on s.2.0) s.2.1 good among in
-          let added = c.in_ok-add.ensures.added (Holds-shown _ _ _ es standing.1) in
+          let added = c.in_ok-add.ensures.added standing.1.shown in
           (e, (so_far, Holds-add _ _ _ _ es e standing.1 among added)),
     )

@@ -1,6 +1,6 @@
 use Rattle.std.proofs.Common.{rules, [], IsTrue, refl}
 use Rattle.theory.specs.System.{Transition, IsAmong}
-use Rattle.autfmt.proofs.Holding.{Holds-add, Holds-shown}
+use Rattle.autfmt.proofs.Holding.{Holds-add}
 use Rattle.autfmt.proofs.ReaderSteps.{transition_good, whatever_line}
 use Rattle.autfmt.proofs.UsualLines.{behind, cuts_in_front, goes_on_in_front}
 use Rattle.autfmt.proofs.reader.read_usual.Goals as goal
@@ -18,6 +18,6 @@ returns-clause-taken c =
     transition_good [] standing.0 (behind front) e (goes_on_in_front _ _ _ _ _ _ front open_at)
     (cuts_in_front _ _ _ _ _ front) front.spelled among in
     let elsewhere = whatever_line _ _ front.line c.args.cutter.now.line _ _ _ _ so_far in
-    let added = c.in_ok-is_added.ensures.added (Holds-shown _ _ _ es standing.1) yes in
+    let added = c.in_ok-is_added.ensures.added standing.1.shown yes in
     let passed = c.pass.ensures.passed front.line _ front.whole refl in
     (e, (rw passed elsewhere, Holds-add _ _ _ _ es e standing.1 among added))

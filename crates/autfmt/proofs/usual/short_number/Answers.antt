@@ -1,6 +1,6 @@
 use Rattle.std.proofs.Common.{rules, ◌≢◌, ◌<◌, get_or, subst, sym}
 use Rattle.autfmt.specs.Usual.{BeginsWithNumber}
-use Rattle.autfmt.proofs.Lists.{rest_of}
+use Rattle.std.proofs.lemmas.List.{take_rest}
 use Rattle.autfmt.proofs.UsualLines.{number_in_front}
 use Rattle.autfmt.proofs.usual.short_number.Goals as goal
 use Rattle.autfmt.proofs.usual.short_number.Goals.{else-count-gt1-via-then-count-gt1+else-bytes-eq48}
@@ -11,5 +11,5 @@ returns-clause-number c =
     let bytes = c.args.bytes.now in
     let n = c.in_ok-count.count in
     let leads : 1 < n → get_or bytes 0 0 ≢ 48 = search rules in
-    subst (λ rest. BeginsWithNumber bytes c.in_ok-count.value rest) (sym (rest_of n bytes))
+    subst (λ rest. BeginsWithNumber bytes c.in_ok-count.value rest) (sym (take_rest bytes n))
     (number_in_front bytes n c.in_ok-count.value c.in_ok-count.ensures leads)
