@@ -1,5 +1,4 @@
 pub mod CallerLemmas
-pub mod StrongSignatures
 pub mod Signatures
 pub mod Searching
 pub mod Rounds

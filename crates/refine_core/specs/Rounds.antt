@@ -98,12 +98,12 @@ HasNewBlock first_new pairs = (z : ℕ × ℕ) × Contains pairs z × (first_new
 
 -- `IsStrongSplitSignature` holds if `list` is the split signature of the state s for strong bisimilarity. A block is
 -- new if its ID is at least `first_new`. If no block ID in the signature of s is new (`MentionsOnlyOld`), this
--- signature is the same as in the last round, and `list` must be empty. Before the first round, the signature of each
--- state is taken to be empty. In all other cases, `list` must be the signature of s, and must not be empty.
+-- signature is the same as in the last round, and `list` must be empty. In all other cases, `list` must be the signature
+-- of s, and must contain the ID of a new block (`HasNewBlock`). Before the first round, all blocks are new.
 abbrev pub IsStrongSplitSignature : Grouped → List ℕ → ℕ → ℕ → List (ℕ × ℕ) → Type 0
 IsStrongSplitSignature l of first_new s list =
-    let unaffected = MentionsOnlyOld Strong (system_of l) (slice_index of) first_new s in
-    ((list ≡ []) × unaffected) ⊎ (¬ (list ≡ []) × ¬ unaffected × IsSignature Strong l of s list)
+    ((list ≡ []) × MentionsOnlyOld Strong (system_of l) (slice_index of) first_new s)
+    ⊎ (HasNewBlock first_new list × IsSignature Strong l of s list)
 
 -- `CachesIds` holds if both of the following conditions hold. First, the list `cached` contains the ID of an interned
 -- signature for each state. Second, if a state is not in a singleton block (a block with one state), `cached` contains

@@ -202,22 +202,21 @@ pub fn read<M: Meter>(
     pairs.reserve((end - start) as usize)?;
     let mut affected = false;
     let mut k = start;
-    if (end - start) % 2 == 1 {
-        let only = under.l.edge(k, m);
-        affected = collect(under.block_ids, under.first_new, only, affected, pairs);
-        k += 1;
-    }
     // A visit is a read of a transition that the meter counts. The loop makes two visits, and then stores two pairs.
     // After a store, the next visit has to wait until the visit counter has been loaded from memory again. Because the
     // loop makes two visits before each two stores, it waits half as often as with one visit before each store.
-    while k < end {
+    while end - k >= 2 {
         let first = under.l.edge(k, m);
         let second = under.l.edge(k + 1, m);
         affected = collect(under.block_ids, under.first_new, first, affected, pairs);
         affected = collect(under.block_ids, under.first_new, second, affected, pairs);
         k += 2;
     }
-    Ok(affected)
+    if k == end {
+        return Ok(affected);
+    }
+    let last = under.l.edge(k, m);
+    Ok(collect(under.block_ids, under.first_new, last, affected, pairs))
 }
 
 /// Appends the pair (label, target block) of a transition to `pairs`. A block is new if the last split has made it. The

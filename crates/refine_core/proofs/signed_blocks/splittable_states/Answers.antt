@@ -5,15 +5,15 @@ use Rattle.refine_core.proofs.signed_blocks.splittable_states.Goals as goal
 
 pub loop-s-preserved-then-start-end : goal.loop-s-preserved-then-start-end
 loop-s-preserved-then-start-end g c =
-    live_less (inr (nil_from_length _ (omega (arith, c.row-start.ensures.count, c.if-start-end.true))))
-    c.loop-s.invariant
+    live_less c.loop-s.invariant
+    (inr (nil_from_length _ (omega (arith, c.row-start.ensures.count, c.if-start-end.true))))
 
 pub loop-s-preserved-then-is_singleton : goal.loop-s-preserved-then-is_singleton
-loop-s-preserved-then-is_singleton g c = live_less (inl (c.is_singleton.ensures.0 c.if-is_singleton.true))
-    c.loop-s.invariant
+loop-s-preserved-then-is_singleton g c = live_less c.loop-s.invariant
+    (inl (c.is_singleton.ensures.0 c.if-is_singleton.true))
 
 pub loop-s-preserved : goal.loop-s-preserved
-loop-s-preserved g c = live_more c.in_ok-push.ensures.items c.loop-s.invariant
+loop-s-preserved g c = live_more c.loop-s.invariant c.in_ok-push.ensures.items
 
 pub returns : goal.returns
 returns g c = let all : c.loop-s.s ≡ c.args.l.now.states =

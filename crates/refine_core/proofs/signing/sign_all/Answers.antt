@@ -1,14 +1,15 @@
-use Rattle.std.proofs.Common.{◌∙◌, inl}
+use Rattle.std.proofs.Common.{◌∙◌, inl, refl, None}
 use Rattle.lts.proofs.CallerLemmas.{none_visited}
-use Rattle.refine_core.proofs.Rounds.{ready_discarded}
+use Rattle.refine_core.proofs.Rounds.{ready_all}
 use Rattle.refine_core.proofs.signing.sign_all.Goals as goal
 
 -- The data of the round is ready for computing signatures, as if no round had run before (`IsReadyToSign`).
 pub sign_and_visit_rest-requires-clause-ready : goal.sign_and_visit_rest-requires-clause-ready
 sign_and_visit_rest-requires-clause-ready g c =
     let is = c.in_ok-round.ensures.same.0 ∙ c.in_ok-new.ensures.blocks in
-    ready_discarded _ _ _ (rw is c.requires.states) c.in_ok-round.ensures.discarded (λ _. rw is c.requires.new)
+    ready_all _ _ None _ (rw is c.requires.states) (λ _. rw is c.requires.new)
     (λ s h. inl (rw is (c.requires.active s h))) (rw (c.in_ok-round.ensures.same.1, c.in_ok-new.ensures.absent) tt)
+    (λ branching. (refl, c.in_ok-round.ensures.discarded branching))
 
 pub sign_and_visit_rest-requires-clause-visited : goal.sign_and_visit_rest-requires-clause-visited
 sign_and_visit_rest-requires-clause-visited g c = rw c.visits-start.ensures

@@ -1,14 +1,14 @@
-use Rattle.std.proofs.Common.{◌≡◌, ◌↔◌, ℕ, ◌+◌, ◌-◌, ◌*◌, ◌≤◌, IsTrue}
+use Rattle.std.proofs.Common.{◌≡◌, ◌↔◌, ◌+◌, ◌-◌, ◌≤◌, IsTrue}
 use Rattle.std.specs.Vec.{vec_len, vec_capacity}
 use Rattle.lts.specs.Meter.{Costs}
 use Rattle.refine_core.specs.Rounds.{HasNewBlock}
-use Rattle.refine_core.proofs.StrongSignatures.{pairs_to}
+use Rattle.refine_core.proofs.Signatures.{pairs_to}
 use Rattle.refine_core.proofs.strong.read.Given as goal
 
 abbrev pub invariant-loop-k : goal.invariant-loop-k
 invariant-loop-k g l = record {
   begun : l.start ≤ l.k;
-  by_two : (n : ℕ) × (l.end ≡ l.k + n * 2);
+  within : l.k ≤ l.end;
   room : vec_len l.pairs + l.end ≤ vec_capacity l.pairs + l.k;
   pairs : l.pairs.items ≡ pairs_to l.under.block_ids.now l.under.l.now.places l.s l.start l.k;
   affected : IsTrue l.affected ↔ HasNewBlock l.under.first_new l.pairs.items;

@@ -2,16 +2,15 @@ use Rattle.std.proofs.Common.{◌<◌, ◌≤◌, rules, arith}
 use Rattle.std.proofs.lemmas.Grind.{common_steps}
 use Rattle.std.proofs.lemmas.List.{take_all}
 use Rattle.lts.specs.Visited.{price_between}
-use Rattle.lts.proofs.CallerLemmas.{row_left, price_none, price_first, price_split, price_one_more}
-use Rattle.refine_core.proofs.StrongSignatures.{row_all}
+use Rattle.lts.proofs.CallerLemmas.{left_none, row_left, price_none, price_first, price_split, price_one_more}
 use Rattle.refine_core.proofs.strong.read_unvisited.Goals as goal
 
 pub read-requires-clause-room : goal.read-requires-clause-room
-read-requires-clause-room g c = search (rules, row_all, c.is_empty.ensures, c.if-is_empty.true, c.requires.room)
+read-requires-clause-room g c = rw (c.is_empty.ensures.0 c.if-is_empty.true, left_none) at c.requires.room
 
 pub returns-then-is_empty-clause-visits : goal.returns-then-is_empty-clause-visits
 returns-then-is_empty-clause-visits g c =
-    search (rules, row_all, c.is_empty.ensures, c.if-is_empty.true, c.read.ensures.visits)
+    rw (c.is_empty.ensures.0 c.if-is_empty.true, left_none) c.read.ensures.visits
 
 pub loop-k-init : goal.loop-k-init
 loop-k-init g c = search (rules, price_none, c.in_ok-reserve.ensures.items, c.clear.ensures.items)
@@ -21,10 +20,10 @@ edge-transition-requires-clause-room g c =
     let visited = c.args.visited.now in
     let (start, end) = c.row-start.result in
     let k = c.loop-k.k in
-    let all = row_left visited c.args.under.now.l.now.places c.args.s start end c.row-start.ensures in
     let below : k < end = omega (arith, c.loop-k-test.true, c.loop-k.auto) in
     let split = price_split visited start k end (omega (arith, c.loop-k.auto)) (omega (arith, below)) in
-    omega (arith, all, split, price_first visited k end below, c.loop-k.invariant.visits, c.requires.room)
+    let first = price_first visited k end below in
+    search (rules, row_left, split, first, c.row-start.ensures, c.loop-k.invariant.visits, c.requires.room)
 
 pub loop-k-preserved : goal.loop-k-preserved
 loop-k-preserved g c =

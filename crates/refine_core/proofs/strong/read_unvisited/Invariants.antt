@@ -3,7 +3,7 @@ use Rattle.std.specs.Vec.{vec_len, vec_capacity}
 use Rattle.lts.specs.Meter.{Costs}
 use Rattle.lts.specs.Visited.{price_between}
 use Rattle.refine_core.specs.Rounds.{HasNewBlock}
-use Rattle.refine_core.proofs.StrongSignatures.{pairs_to}
+use Rattle.refine_core.proofs.Signatures.{pairs_to}
 use Rattle.refine_core.proofs.strong.read_unvisited.Given as goal
 
 abbrev pub invariant-loop-k : goal.invariant-loop-k

@@ -1,9 +1,33 @@
-use Rattle.std.proofs.lemmas.List.{length-set, get_or_default}
-use Rattle.std.proofs.Common.{sym, ◌∙◌, ◌≤◌, rules, ◌+◌, length, slice_index, arith}
+use Rattle.std.proofs.lemmas.Grind.{common_steps}
+use Rattle.std.proofs.lemmas.List.{length-set, get_or_default, get_or-set_other}
+use Rattle.std.proofs.Common.{◌≡◌, ◌∙◌, ℕ, ◌+◌, ◌<◌, ◌≤◌, List, length, slice_index, set, sym, rules, arith}
+use Rattle.signatures.specs.Lists.{list_at, Grow}
+use Rattle.partition.specs.Blocks.{AreActive, InactiveHaveNone}
 use Rattle.lts.specs.Visited.{remaining_of}
 use Rattle.lts.proofs.CallerLemmas.{before-mono, before-next, before-le}
-use Rattle.refine_core.proofs.StrongSignatures.{row_within, signed_more, inactive_none_more}
+use Rattle.refine_core.proofs.Signatures.{row_within}
+use Rattle.refine_core.proofs.strong.sign_active.Invariants.{HasGot}
 use Rattle.refine_core.proofs.strong.sign_active.Goals as goal
+
+-- The active states are the states that the round processes, and P is a condition on a state and a signature. Suppose
+-- that `signature_ids` contains the ID of an interned signature for each of the first i active states, and that P holds
+-- for each of these states and its signature (`HasGot`). Suppose also that the ID k is then stored for the next active
+-- state, and that P holds for this state and the signature with the ID k. Then `signature_ids` contains the ID of an
+-- interned signature for each of the first i + 1 active states, and P holds for each of these states and its signature.
+signed_more : {P : ℕ → List (ℕ × ℕ) → Type 0} {signatures signatures' : List (List (ℕ × ℕ))}
+    {signature_ids active : List ℕ} {states i k : ℕ} → Grow signatures signatures' → AreActive states active
+    → length signature_ids ≡ states → i < length active
+    → ((j : ℕ) → j < i → HasGot P signatures signature_ids (slice_index active j)) → k < length signatures'
+    → P (slice_index active i) (list_at signatures' k)
+    → (j : ℕ) → j < i + 1 → HasGot P signatures' (set signature_ids (slice_index active i) k) (slice_index active j)
+signed_more grow rises size more before within this = search rules
+
+-- The active states are the states that the round processes. Suppose that every state that is not active has the
+-- signature ID 0, and that the signature ID of an active state is then changed. Then every state that is not active
+-- still has the signature ID 0.
+inactive_none_more : (signature_ids active : List ℕ) (i k : ℕ) → i < length active
+    → InactiveHaveNone active signature_ids → InactiveHaveNone active (set signature_ids (slice_index active i) k)
+inactive_none_more signature_ids active i k more none t h = grind (arith, common_steps, get_or-set_other, length-set)
 
 pub intern_signature-requires-clause-room : goal.intern_signature-requires-clause-room
 intern_signature-requires-clause-room g c =

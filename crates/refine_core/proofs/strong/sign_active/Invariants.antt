@@ -1,11 +1,18 @@
-use Rattle.std.proofs.Common.{◌≡◌, ℕ, ◌<◌, ◌≤◌, length, slice_index}
+use Rattle.std.proofs.Common.{◌≡◌, ℕ, ◌<◌, ◌≤◌, List, length, slice_index}
 use Rattle.lts.specs.Meter.{Costs}
 use Rattle.lts.specs.Lts.{before}
 use Rattle.lts.specs.Visited.{remaining_of}
 use Rattle.partition.specs.Blocks.{InactiveHaveNone}
-use Rattle.refine_core.specs.Rounds.{IsStrongSplitSignature}
-use Rattle.refine_core.proofs.StrongSignatures.{HasGot}
+use Rattle.refine_core.specs.Rounds.{list_of, IsStrongSplitSignature}
 use Rattle.refine_core.proofs.strong.sign_active.Given as goal
+
+-- P is a condition on a state and a signature. `HasGot` holds if both of the following conditions hold. First, the list
+-- `signature_ids` contains, for the state s, the ID of an interned signature. Second, the condition P holds for s and
+-- this signature.
+pub record HasGot (P : ℕ → List (ℕ × ℕ) → Type 0) (signatures : List (List (ℕ × ℕ))) (signature_ids : List ℕ) (s : ℕ) :
+    Type 0 where
+  pub within : slice_index signature_ids s < length signatures
+  pub holds : P s (list_of signatures signature_ids s)
 
 abbrev pub invariant-loop-s : goal.invariant-loop-s
 invariant-loop-s g l = record {
