@@ -4,15 +4,16 @@
 --
 -- Each reachable state has exactly one class number. Two reachable states have the same class number if and only if
 -- they are bisimilar. The class numbers (the quotient states) are exactly the numbers less than the number of leaders.
-use Rattle.std.proofs.Common.{◌≡◌, ◌≢◌, ◌⊎◌, ◌↔◌, ℕ, zero, suc, ◌+◌, ◌<◌, refl, sym, ◌∙◌, ap, subst, inl, inr, arith}
+use Rattle.std.proofs.Common.{◌≡◌, ◌≢◌, ◌⊎◌, ◌↔◌, ℕ, zero, suc, ◌+◌, ◌<◌, ◌≤◌, refl, sym, ◌∙◌, ap, subst, inl, inr}
+use Rattle.std.proofs.Common.{add-one, arith}
 use Rattle.std.proofs.lemmas.Bool.{cases_eq, cases_order}
 use Rattle.theory.specs.System.{System, IsSystem, Reachable}
 use Rattle.theory.specs.Bisimulation.{Bisimilar}
 use Rattle.theory.specs.declared.relation.Relation.{Relation}
 use Rattle.theory.specs.Quotient.{HowMany, Leader, IsLeader, Number}
 use Rattle.theory.proofs.Deciding.{same_number, not_so, both, decided_like}
-use Rattle.theory.proofs.Tally.{how_many_like, how_many_unique, one, tally, tally_next, tallied, tally_is, tally_less}
-use Rattle.theory.proofs.Tally.{tally_reached, tally_one_more}
+use Rattle.theory.proofs.Tally.{how_many_like, how_many_unique, one, one_yes, one_no, tally, tally_suc, tallied, tally_is}
+use Rattle.theory.proofs.Tally.{tally_less, tally_reached, tally_one_more, tally_at_most}
 use Rattle.theory.proofs.Leaders.{leader_unique, first_reachable, reachable_decided, first_leads, leader_fellow}
 use Rattle.theory.proofs.Leaders.{leader_carried, same_leader_bisimilar, leads_itself, leader_of, is_leader_itself}
 use Rattle.theory.proofs.Leaders.{is_leader_below, is_leader_decided}
@@ -29,7 +30,7 @@ module _ (rel : Relation) (A : System) (sys : IsSystem A) where
   -- States are numbers. A leader is a state that represents its class. Returns the number of leaders that are less than
   -- the number l and differ from the first state. The first state is left out because its class always has the number
   -- 0.
-  place : ℕ → ℕ
+  pub place : ℕ → ℕ
   place l = tally (IsOther rel A) is_other_decided l
 
   place_counts : (l : ℕ) → HowMany (λ m. IsLeader rel A m × (m < l) × (m ≢ A.first)) (place l)
@@ -50,7 +51,9 @@ module _ (rel : Relation) (A : System) (sys : IsSystem A) where
       how_many_unique (λ m. IsLeader rel A m × (m < l) × (m ≢ A.first)) k (place l) many (place_counts l) in
       (l, leader, inr (other, omega (arith, is, e)))
 
-  placed_number : (s l n : ℕ) → Leader rel A s l → Placed l n → Number rel A s n
+  -- The leader of a state is the state that represents its class. If l is the leader of the state s, and n is the class
+  -- number of l (`Placed`), then n is the class number of s.
+  pub placed_number : (s l n : ℕ) → Leader rel A s l → Placed l n → Number rel A s n
   placed_number s l n leader (inl p) = (l, leader, inl p)
   placed_number s l n leader (inr p) = (l, leader, inr (p.0, place l, place_counts l, omega (arith, p.1)))
 
@@ -176,45 +179,45 @@ module _ (rel : Relation) (A : System) (sys : IsSystem A) where
         let own : Reachable A found.0 × Leader rel A found.0 found.0 = is_leader_itself rel A sys found.0 found.2.0 in
         (found.0, own.0, placed_number found.0 found.0 (suc n) own.1 (inr (found.2.1, ap suc (sym found.3))))
 
-  others_next : (l c : ℕ) (p : Dec (IsOther rel A l)) → HowMany (λ m. IsLeader rel A m × (m < l) × (m ≢ A.first)) c
-      → HowMany (λ m. IsLeader rel A m × (m < l + 1) × (m ≢ A.first)) (c + one p)
-  others_next l c p many =
-      how_many_like (λ m. IsOther rel A m × (m < suc l)) (λ m. IsLeader rel A m × (m < l + 1)
-      × (m ≢ A.first)) (c + one p)
-      (λ m. (λ h. (h.0.0, omega (arith, h.1), h.0.1), λ h. ((h.0, h.2), omega (arith, h.1))))
-      (tally_next (IsOther rel A) is_other_decided l c p
-      (how_many_like (λ m. IsLeader rel A m × (m < l) × (m ≢ A.first)) (λ m. IsOther rel A m × (m < l)) c
-      (λ m. (λ h. ((h.0, h.2), h.1), λ h. (h.0.0, h.1, h.0.1))) many))
+  -- States are numbers. A leader is a state that represents its class. `place l` is the number of leaders that are less
+  -- than the number l and differ from the first state. If l is a leader and differs from the first state, then `place
+  -- (l + 1)` is 1 more than `place l`. Otherwise, the two numbers are equal.
+  pub place_next : (l : ℕ) → (IsOther rel A l × (place (l + 1) ≡ place l + 1))
+      ⊎ (¬ IsOther rel A l × (place (l + 1) ≡ place l))
+  unfolding place
+  place_next l = rw (add-one l) (go (is_other_decided l))
+    where
+      next : tally (IsOther rel A) is_other_decided (suc l) ≡ tally (IsOther rel A) is_other_decided l
+          + one (is_other_decided l)
+      next = tally_suc (IsOther rel A) is_other_decided l
 
-  -- States are numbers. A leader is a state that represents its class. Suppose that exactly c leaders are less than the
-  -- state l and differ from the first state. If l is a leader and differs from the first state, then exactly c + 1
-  -- leaders are less than l + 1 and differ from the first state.
-  pub others_one : (l c : ℕ) → IsLeader rel A l → l ≢ A.first
-      → HowMany (λ m. IsLeader rel A m × (m < l) × (m ≢ A.first)) c
-      → HowMany (λ m. IsLeader rel A m × (m < l + 1) × (m ≢ A.first)) (c + 1)
-  others_one l c leads other many = others_next l c (yes (leads, other)) many
+      go : Dec (IsOther rel A l) →
+          (IsOther rel A l × (tally (IsOther rel A) is_other_decided (suc l)
+          ≡ tally (IsOther rel A) is_other_decided l + 1))
+          ⊎ (¬ IsOther rel A l × (tally (IsOther rel A) is_other_decided (suc l)
+          ≡ tally (IsOther rel A) is_other_decided l))
+      go (yes h) = inl (h, omega (arith, next, one_yes h (is_other_decided l)))
+      go (no f) = inr (f, omega (arith, next, one_no f (is_other_decided l)))
 
-  -- States are numbers. Consider the leaders (states that represent their classes) that differ from the first state. If
-  -- l is the first state or is not a leader, then the number of these leaders that are less than l + 1 equals the
-  -- number of these leaders that are less than l.
-  pub others_same : (l c : ℕ) → ¬ IsOther rel A l → HowMany (λ m. IsLeader rel A m × (m < l) × (m ≢ A.first)) c
-      → HowMany (λ m. IsLeader rel A m × (m < l + 1) × (m ≢ A.first)) c
-  others_same l c not many =
-      subst (HowMany (λ m. IsLeader rel A m × (m < l + 1) × (m ≢ A.first))) (omega arith)
-      (others_next l c (no not) many)
+  -- A leader is a state that represents its class. At most l leaders are less than the number l.
+  pub place_few : (l : ℕ) → place l ≤ l
+  unfolding place
+  place_few l = tally_at_most (IsOther rel A) is_other_decided l
 
-  -- A leader is a state that represents its class. If exactly c leaders differ from the first state, there are exactly
-  -- 1 + c leaders.
-  pub leaders_counted : (c : ℕ) → HowMany (λ m. IsLeader rel A m × (m < A.states) × (m ≢ A.first)) c →
-      HowMany (IsLeader rel A) (1 + c)
-  leaders_counted c many =
-      let all : HowMany (IsLeader rel A) (tally (IsLeader rel A) (is_leader_decided rel A sys) A.states) =
+  all_leaders : HowMany (IsLeader rel A) (tally (IsLeader rel A) (is_leader_decided rel A sys) A.states)
+  all_leaders =
       how_many_like (λ l. IsLeader rel A l × (l < A.states)) (IsLeader rel A)
       (tally (IsLeader rel A) (is_leader_decided rel A sys) A.states)
       (λ l. (λ h. h.0, λ h. (h, is_leader_below rel A sys l h)))
-      (tallied (IsLeader rel A) (is_leader_decided rel A sys) A.states) in
-      let same : c ≡ place A.states =
-      how_many_unique (λ m. IsLeader rel A m × (m < A.states) × (m ≢ A.first)) c (place A.states) many
-      (place_counts A.states) in
-      subst (HowMany (IsLeader rel A))
-      (omega (arith, others_counted (tally (IsLeader rel A) (is_leader_decided rel A sys) A.states) all, same)) all
+      (tallied (IsLeader rel A) (is_leader_decided rel A sys) A.states)
+
+  -- A leader is a state that represents its class. There is one leader more than there are leaders that differ from the
+  -- first state.
+  pub leaders_counted : HowMany (IsLeader rel A) (suc (place A.states))
+  leaders_counted = subst (HowMany (IsLeader rel A)) (others_counted _ all_leaders) all_leaders
+
+  -- A leader is a state that represents its class. The number of leaders that differ from the first state is less than
+  -- the number of states.
+  pub leaders_few : place A.states < A.states
+  leaders_few =
+      omega (arith, others_counted _ all_leaders, tally_at_most (IsLeader rel A) (is_leader_decided rel A sys) A.states)

@@ -26,10 +26,9 @@ pub use inert::{
 };
 pub use laws::{bisimulations_survive, one_block_is_kept, splitting_keeps, stable_is_bisimulation};
 pub use minimal::{
-    each_state_has_a_number, leaders_are_counted, leaders_differ, no_smaller_system,
-    numbers_are_classes, numbers_are_states, quotient_is_a_system, quotient_is_equivalent,
-    quotient_states_differ, states_are_bisimilar_to_their_numbers, steps_keep_reachable,
-    the_quotient_is_one,
+    each_state_has_a_number, leaders_differ, no_smaller_system, numbers_are_classes,
+    numbers_are_states, quotient_is_a_system, quotient_is_equivalent, quotient_states_differ,
+    states_are_bisimilar_to_their_numbers, steps_keep_reachable, the_quotient_is_one,
 };
 pub use relation::Relation;
 pub use unions::{

@@ -2,12 +2,12 @@
 //! quotient is equivalent to the system, contains no two bisimilar states, and has the fewest states of all equivalent
 //! systems.
 
-ghost use Rattle.std.specs.Prelude.{◌≡◌, ◌≢◌, ◌↔◌, ℕ, ◌+◌, ◌<◌, ◌≤◌, Bool, IsTrue, List};
+ghost use Rattle.std.specs.Prelude.{◌≡◌, ◌↔◌, ℕ, ◌<◌, ◌≤◌, Bool, IsTrue, List};
 ghost use Rattle.std.specs.List.{Contains};
 ghost use Rattle.theory.specs.System.{System, Transition, IsSystem, Step, Reachable};
 ghost use Rattle.theory.specs.Bisimulation.{Bisimilar, Equivalent};
 ghost use Rattle.theory.specs.declared.relation.Relation.{Relation};
-ghost use Rattle.theory.specs.Quotient.{HowMany, Leader, IsLeader, Number, Quotient};
+ghost use Rattle.theory.specs.Quotient.{Leader, IsLeader, Number, Quotient};
 
 /// The first state is reachable. If a step leads from a reachable state to another state, that state is reachable too.
 /// Every reachable state is a state of the system. If the first state has a property, and every step preserves this
@@ -27,26 +27,6 @@ pub fn leaders_differ()
     ensures { (rel : Relation) (A : System) (l m : ℕ) → IsSystem A → IsLeader rel A l →
         IsLeader rel A m →
         Bisimilar rel A l A m → l ≡ m }
-{}
-
-/// This contract is used to prove that a loop over the states counts the leaders, which are the states that represent
-/// their classes. The loop counts all leaders except the first state, and then adds 1 for the first state. The first
-/// clause is about the start of the loop, the next two clauses are about one state, and the last clause is about the
-/// end.
-pub fn leaders_are_counted()
-    ensures none { (rel : Relation) (A : System) →
-        HowMany (λ m. IsLeader rel A m × (m < 0) × (m ≢ A.first)) 0 }
-    ensures one { (rel : Relation) (A : System) (l c : ℕ) → IsSystem A →
-        IsLeader rel A l → l ≢ A.first →
-        HowMany (λ m. IsLeader rel A m × (m < l) × (m ≢ A.first)) c →
-        HowMany (λ m. IsLeader rel A m × (m < l + 1) × (m ≢ A.first)) (c + 1) }
-    ensures same { (rel : Relation) (A : System) (l c : ℕ) → IsSystem A →
-        ¬ (IsLeader rel A l × (l ≢ A.first)) →
-        HowMany (λ m. IsLeader rel A m × (m < l) × (m ≢ A.first)) c →
-        HowMany (λ m. IsLeader rel A m × (m < l + 1) × (m ≢ A.first)) c }
-    ensures all { (rel : Relation) (A : System) (c : ℕ) → IsSystem A →
-        HowMany (λ m. IsLeader rel A m × (m < A.states) × (m ≢ A.first)) c →
-        HowMany (IsLeader rel A) (1 + c) }
 {}
 
 /// The leader of a reachable state is the state that represents its class. Each reachable state has exactly one leader.
