@@ -3,7 +3,7 @@
 -- about the invariant of this loop (`Taken`). The invariant holds before the loop. If it holds before the loop
 -- processes a state, it still holds afterwards. After the last state, the invariant implies that all class numbers are
 -- correct.
-use Rattle.std.proofs.Common.{◌≡◌, ◌≢◌, ◌∙◌, ◌⊎◌, ◌↔◌, ℕ, ◌+◌, ◌<◌, ◌≤◌, Bool, IsTrue, [], ◌∷◌, length}
+use Rattle.std.proofs.Common.{◌≡◌, ◌≢◌, ◌∙◌, ◌⊎◌, ◌↔◌, ℕ, suc, ◌+◌, ◌<◌, ◌≤◌, Bool, IsTrue, [], ◌∷◌, length}
 use Rattle.std.proofs.Common.{slice_index, replicate, set, refl, sym, ap, subst, inl, inr, arith}
 use Rattle.std.proofs.lemmas.Grind.{common_steps}
 use Rattle.std.proofs.lemmas.Bool.{cases_eq, cases_lt}
@@ -13,54 +13,12 @@ use Rattle.theory.specs.System.{System, IsSystem, Reachable}
 use Rattle.theory.specs.Bisimulation.{Bisimilar}
 use Rattle.theory.specs.declared.relation.Relation.{Relation}
 use Rattle.theory.specs.Blocks.{EachTwo}
-use Rattle.theory.specs.Quotient.{HowMany, Fellow, Leader, IsLeader, Number}
+use Rattle.theory.specs.Quotient.{Fellow, Leader, IsLeader, Number}
 use Rattle.quotient_core.specs.Numbers.{TakesState}
 use Rattle.quotient_core.specs.declared.numbering.Numbers.{Numbers}
 use Rattle.quotient_core.specs.declared.numbering.TheConstants.{NONE}
-use Rattle.theory.proofs.CallerLemmas.{is_leader_itself}
-
-module _ {b : ℕ} {reached : Bool} {old new : Numbers} (takes : TakesState b reached old new) where
-  -- The table `by_block` contains the class number of each block, which is the number of the quotient state that
-  -- represents the reachable states of the block. When the loop processes a state, this table keeps its length, and at
-  -- most one class is added to the list of classes.
-  pub TakesState-room : (length new.by_block.items ≡ length old.by_block.items)
-      × (length old.classes.items ≤ length new.classes.items)
-      × (length new.classes.items ≤ length old.classes.items + 1)
-  TakesState-room = grind (arith, length-set {A = ℕ}, length_push {X = ℕ}, takes.classes)
-
-  -- The list of classes contains the block ID of each class. Suppose that the loop has just processed a state of the
-  -- block b. Then at most one entry was added to the list of classes: the block ID b, at the end of the list. All other
-  -- entries of the list are the same as before.
-  pub class_at : (i : ℕ) → i < length new.classes.items → ((i < length old.classes.items)
-      × (slice_index new.classes.items i ≡ slice_index old.classes.items i))
-      ⊎ (IsTrue reached × (slice_index old.by_block.items b ≡ NONE) × (i ≡ length old.classes.items)
-      × (slice_index new.classes.items i ≡ b))
-  class_at i l = grind (arith, common_steps, takes.classes)
-
--- `Other` holds if all three of the following conditions hold. First, the state m is a leader, which is a state that
--- represents its class (`IsLeader`). Second, m is less than the number s. Third, m is not the first state of the
--- system.
-abbrev pub Other : Relation → System → ℕ → ℕ → Type 0
-Other rel A s m = IsLeader rel A m × (m < s) × (m ≢ A.first)
-
--- `Laws` collects the assumptions of the proofs below. The assumption `same` is that two states share a block if and
--- only if they are bisimilar. The assumption `number` is that each reachable state has a class number, which is the
--- number of the quotient state that represents this state. The assumption `classes` is that two reachable states have
--- the same class number if and only if they are bisimilar. The last four assumptions are about the number of leaders
--- (states that represent their classes) that are less than a given state and differ from the first state (`Other`).
-pub record Laws (rel : Relation) (A : System) (block : ℕ → ℕ) : Type 0 where
-  pub same : EachTwo A (λ s t. (block s ≡ block t) ↔ Bisimilar rel A s A t)
-  pub system : IsSystem A
-  pub below : (s : ℕ) → Reachable A s → s < A.states
-  pub number : (s : ℕ) → Reachable A s → (n : ℕ) × Number rel A s n
-  pub classes : (s t m n : ℕ) → Reachable A s → Reachable A t → Number rel A s m → Number rel A t n →
-      (m ≡ n) ↔ Bisimilar rel A s A t
-  pub none : HowMany (Other rel A 0) 0
-  pub one : (l c : ℕ) → IsLeader rel A l → l ≢ A.first → HowMany (Other rel A l) c →
-      HowMany (Other rel A (l + 1)) (c + 1)
-  pub kept : (l c : ℕ) → ¬ (IsLeader rel A l × (l ≢ A.first)) → HowMany (Other rel A l) c →
-      HowMany (Other rel A (l + 1)) c
-  pub all : (c : ℕ) → HowMany (Other rel A A.states) c → HowMany (IsLeader rel A) (1 + c)
+use Rattle.theory.proofs.CallerLemmas.{reachable_below, is_leader_itself, number_once, number_carried, first_number}
+use Rattle.theory.proofs.CallerLemmas.{place, place_next, place_few, placed_number}
 
 -- `number_at` is the entry that the table `by_block` of n contains for the block of the state t. The entry is the class
 -- number of this block, which is the number of the quotient state that represents the reachable states of the block. If
@@ -72,43 +30,68 @@ number_at block n t = slice_index n.by_block.items (block t)
 -- is the number of the quotient state that represents this state. The class number of a block is the number of the
 -- quotient state that represents the reachable states of the block. The invariant is about the data n of the loop after
 -- the loop has processed all states that are less than s. It holds if all six of the following conditions hold. First,
--- the list of class numbers contains one entry for each state less than s. If such a state is reachable, the entry is
--- the class number of its block. Second, if a block has a class number, this number is correct. Third, the list of
--- classes contains the ID of each such block at the index that equals the class number of the block. Fourth, the block
--- of the first state has the class number 0. Fifth, the number of classes is 1 plus the number of leaders (states that
--- represent their classes) that are less than s and differ from the first state. Sixth, if the first state is less than
--- s, there are at most s classes.
-pub record Taken (rel : Relation) (A : System) (block : ℕ → ℕ) (s : ℕ) (n : Numbers) : Type 0 where
-  pub numbers_long : length n.numbers.items ≡ s
+-- the table `by_block` contains one entry for each of the `count` blocks. Second, the list of classes contains the ID
+-- of each block that has a class number, at the index that equals this class number, and contains no other IDs. Third,
+-- the block of the first state has the class number 0. Fourth, the list of class numbers contains one entry for each
+-- state less than s. If such a state is reachable, the entry is the class number of its block. Fifth, if the block of a
+-- reachable state has a class number, this number is correct. Sixth, the number of classes is 1 plus the number of
+-- leaders (states that represent their classes) that are less than s and differ from the first state (`place`).
+pub record Taken (rel : Relation) (A : System) (block : ℕ → ℕ) (count s : ℕ) (n : Numbers) : Type 0 where
+  pub room : length n.by_block.items ≡ count
+  pub below : (i : ℕ) → i < length n.classes.items → slice_index n.classes.items i < count
+  pub low : (b : ℕ) → b < count → slice_index n.by_block.items b ≢ NONE →
+      slice_index n.by_block.items b < length n.classes.items
+  pub tied : (b i : ℕ) → b < count → i < length n.classes.items →
+      (slice_index n.classes.items i ≡ b) ↔ (slice_index n.by_block.items b ≡ i)
   pub first : number_at block n A.first ≡ 0
+  pub numbers_long : length n.numbers.items ≡ s
   pub seen : (t : ℕ) → t < s → Reachable A t →
       (slice_index n.numbers.items t ≡ number_at block n t) × (number_at block n t ≢ NONE)
-  pub numbered : (t : ℕ) → t < A.states → number_at block n t ≢ NONE → (number_at block n t < length n.classes.items)
-      × ((u : ℕ) → Reachable A u → block u ≡ block t → Number rel A u (number_at block n t))
-  pub classes : (t i : ℕ) → t < A.states → i < length n.classes.items →
-      (slice_index n.classes.items i ≡ block t) ↔ (number_at block n t ≡ i)
-  pub counted : (c : ℕ) × HowMany (Other rel A s) c × (length n.classes.items ≡ 1 + c)
-  pub fewer : A.first < s → length n.classes.items ≤ s
+  pub number : (t : ℕ) → Reachable A t → number_at block n t ≢ NONE → Number rel A t (number_at block n t)
+  pub counted : (sys : IsSystem A) → length n.classes.items ≡ suc (place rel A sys s)
 
-module _ (rel : Relation) (A : System) (block : ℕ → ℕ) (laws : Laws rel A block) where
+-- These lemmas assume that two states share a block if and only if they are bisimilar.
+module _ (rel : Relation) (A : System) (block : ℕ → ℕ) (sys : IsSystem A)
+    (same : EachTwo A (λ s t. (block s ≡ block t) ↔ Bisimilar rel A s A t)) (count : ℕ)
+    (inside : (t : ℕ) → t < A.states → block t < count) where
   share : (s t : ℕ) → Reachable A s → Reachable A t → (block s ≡ block t) ↔ Bisimilar rel A s A t
-  share s t ws wt = laws.same s t (laws.below s ws) (laws.below t wt)
-
-  -- Suppose that two reachable states share a block. Then the same quotient state represents both of them.
-  number_shared : (u t n : ℕ) → Reachable A u → Reachable A t → block u ≡ block t → Number rel A u n → Number rel A t n
-  number_shared u t n wu wt e h =
-      let own : (m : ℕ) × Number rel A t m = laws.number t wt in
-      let same : n ≡ own.0 = (laws.classes u t n own.0 wu wt h own.1).1 ((share u t wu wt).0 e) in
-      subst (Number rel A t) (sym same) own.1
+  share s t ws wt = same s t (reachable_below A sys s ws) (reachable_below A sys t wt)
 
   -- The following lemmas are about the step in which the loop assigns a class number to the state s. The class number
   -- of s is the number of the quotient state that represents s.
   module _ (s : ℕ) (old new : Numbers) (reached : Bool) (is_reached : IsTrue reached ↔ Reachable A s)
-      (ls : s < A.states) (low : s + 1 < NONE) (few : length old.classes.items ≤ s + 1)
-      (within : block s < length old.by_block.items) (h : Taken rel A block s old)
+      (ls : s < A.states) (less : s + 1 < NONE) (h : Taken rel A block count s old)
       (takes : TakesState (block s) reached old new) where
-    abbrev count : ℕ
-    count = length old.classes.items
+    abbrev classes : ℕ
+    classes = length old.classes.items
+
+    few : classes ≤ s + 1
+    few = omega (arith, h.counted sys, place_few rel A sys s)
+
+    -- The list of classes contains the block ID of each class. When the loop processes the state s, at most one entry
+    -- is added to this list: the block ID of s, at the end of the list. All other entries stay the same.
+    class_at : (i : ℕ) → i < length new.classes.items → ((i < classes)
+        × (slice_index new.classes.items i ≡ slice_index old.classes.items i))
+        ⊎ (IsTrue reached × (number_at block old s ≡ NONE) × (i ≡ classes)
+        × (slice_index new.classes.items i ≡ block s))
+    class_at i l = grind (arith, common_steps, takes.classes)
+
+    -- The table `by_block` contains the class number of each block, or `NONE` if the block has no class number yet.
+    -- When the loop processes the state s, the entry of the block of s stays the same, or changes from `NONE` to the
+    -- next class number. The entries of all other blocks do not change.
+    at : (b : ℕ) → ((slice_index new.by_block.items b ≡ slice_index old.by_block.items b) × (b ≡ block s →
+        IsTrue reached → slice_index old.by_block.items b ≢ NONE)) ⊎ (IsTrue reached × (number_at block old s ≡ NONE)
+        × (b ≡ block s) × (slice_index old.by_block.items b ≡ NONE) × (slice_index new.by_block.items b ≡ classes))
+    at b =
+        let within : block s < length old.by_block.items = omega (arith, inside s ls, h.room) in
+        let same = get_or-set_same old.by_block.items (block s) classes 0 within in
+        let other = get_or-set_other old.by_block.items (block s) b classes 0 in
+        grind (arith, takes.classes, cases_eq b (block s), same, other)
+
+    -- If the state s is the leader of its class, which means that s represents this class, and s is not the first state
+    -- of the system, then the class number of s is the next class number that the loop assigns.
+    next_number : Leader rel A s s → s ≢ A.first → Number rel A s classes
+    next_number leader other = rw (h.counted sys) (placed_number rel A sys s s _ leader (inr (other, refl)))
 
     -- The following lemmas assume that s is reachable, and that its block has no class number yet. The block then gets
     -- the next class number, which is the number of a new state of the quotient.
@@ -139,94 +122,69 @@ module _ (rel : Relation) (A : System) (block : ℕ → ℕ) (laws : Laws rel A 
     -- its block already has a class number. Then s is not a leader, unless s is the first state of the system.
     not_other : (IsTrue reached → number_at block old s ≢ NONE) → ¬ (IsLeader rel A s × (s ≢ A.first))
     not_other joins (lead, other) =
-        let own : Reachable A s × Leader rel A s s = is_leader_itself rel A laws.system s lead in
-        let k = number_at block old s in
-        let had = h.numbered s ls (joins (is_reached.1 own.0)) in
-        let mine : Number rel A s count = (s, own.1, inr (other, h.counted.0, h.counted.1, h.counted.2)) in
-        let same : k ≡ count = (laws.classes s s k count own.0 own.0 (had.1 s own.0 refl) mine).1
-        ((share s s own.0 own.0).0 refl) in
-        absurd (omega (arith, same, had.0))
-
-    -- The table `by_block` contains the class number of each block, or `NONE` if the block has no class number yet.
-    -- When the loop processes the state s, the entry of the block of s stays the same, or changes from `NONE` to the
-    -- next class number. The entries of all other blocks do not change.
-    at : (t : ℕ) → ((number_at block new t ≡ number_at block old t) × (block t ≡ block s → IsTrue reached →
-        number_at block old t ≢ NONE)) ⊎ (IsTrue reached × (number_at block old s ≡ NONE) × (block t ≡ block s)
-        × (number_at block old t ≡ NONE) × (number_at block new t ≡ count))
-    at t =
-        let same = get_or-set_same old.by_block.items (block s) count 0 within in
-        let other = get_or-set_other old.by_block.items (block s) (block t) count 0 in
-        grind (arith, takes.classes, cases_eq (block t) (block s), same, other)
+        let own : Reachable A s × Leader rel A s s = is_leader_itself rel A sys s lead in
+        let some = joins (is_reached.1 own.0) in
+        let is = number_once rel A sys s _ _ (h.number s own.0 some) (next_number own.1 other) in
+        absurd (omega (arith, is, h.low (block s) (inside s ls) some))
 
     -- Suppose that the invariant of the loop (`Taken`) holds before the loop processes the state s. Then the invariant
     -- holds afterwards if s is replaced by s + 1.
-    pub Taken-adds : Taken rel A block (s + 1) new
+    pub Taken-adds : Taken rel A block count (s + 1) new
     Taken-adds = record {
+      room = grind (arith, length-set {A = ℕ}, takes.classes, h.room);
+      below = λ i l. grind (arith, class_at i l, h.below i, inside s ls);
+      low = λ b l some. grind (arith, at b, h.low b l, takes.classes, length_push old.classes.items (block s));
+      tied = λ b i l below. grind (arith, h.tied b i l, at b, class_at i below, h.low b l, few, less);
+      first = grind (arith, at (block A.first), h.first);
       numbers_long = rw takes.numbers (omega (arith, length_push {X = ℕ}, h.numbers_long));
-      first = grind (arith, at A.first, h.first);
       seen = λ t l path.
           let own = λ (e : t ≡ s). is_reached.1 (subst (Reachable A) e path) in
           let before = λ (e : t < s). h.seen t e path in
-          rw takes.numbers (grind (arith, common_steps, h.numbers_long, before, at t, own, few, low, l));
-      numbered = λ t l some. elim (at t) [
-        | inl (is, _) ↦ let had = h.numbered t l (λ none. some (is ∙ none)) in
-            rw is (omega (arith, had.0, (TakesState-room takes).1), had.1)
-        | inr (marked, none, e, _, is) ↦ rw is (
-          grind (arith, takes.classes, length_push old.classes.items (block s)),
-          λ u to_u to. number_shared s u count (way marked none) to_u (sym (to ∙ e))
-              (s, leads marked none, inr (other marked none, h.counted.0, h.counted.1, h.counted.2)),
-        )
+          rw takes.numbers (grind (arith, common_steps, h.numbers_long, before, at (block t), own, few, less, l));
+      number = λ t path some. elim (at (block t)) [
+        | inl (is, _) ↦ rw is (h.number t path (λ none. some (is ∙ none)))
+        | inr (marked, none, e, _, is) ↦ rw is (number_carried rel A sys s t classes
+            ((share s t (way marked none) path).0 (sym e)) (next_number (leads marked none) (other marked none)))
       ];
-      classes = λ t i l below.
-          let less = λ (some : number_at block old t ≢ NONE). (h.numbered t l some).0 in
-          grind (arith, h.classes t i l, at t, class_at takes i below, less, few, low);
-      counted = elim takes.classes [
-        | inl (marked, none, e, _) ↦ (
-          h.counted.0 + 1,
-          laws.one s h.counted.0 (s, way marked none, leads marked none) (other marked none) h.counted.1,
-          omega (arith, ap length e, length_push old.classes.items (block s), h.counted.2),
-        )
-        | inr (joins, e, _) ↦ (
-          h.counted.0,
-          laws.kept s h.counted.0 (not_other joins) h.counted.1,
-          ap length e ∙ h.counted.2,
-        )
+      counted = λ sys'. elim (place_next rel A sys' s) [
+        | inl (is_other, up) ↦ elim takes.classes [
+          | inl (_, _, e, _) ↦ omega (arith, ap length e, length_push old.classes.items (block s), h.counted sys', up)
+          | inr (joins, _, _) ↦ absurd (not_other joins is_other)
+        ]
+        | inr (not, up) ↦ elim takes.classes [
+          | inl (marked, none, _, _) ↦ absurd (not ((s, way marked none, leads marked none), other marked none))
+          | inr (_, e, _) ↦ omega (arith, ap length e, h.counted sys', up)
+        ]
       ];
-      fewer = λ l. grind (arith, takes.classes, length_push old.classes.items (block s), h.fewer, other, l);
     }
 
   -- The invariant of the loop (`Taken`) holds before the loop processes any state. At this time, only the block of the
   -- first state of the system has a class number, which is 0. The class number of a block is the number of the quotient
   -- state that represents the reachable states of the block.
-  pub Taken-start : (count : ℕ) (n : Numbers) → ((t : ℕ) → t < A.states → block t < count) →
-      n.by_block.items ≡ set (replicate count NONE) (block A.first) 0 →
-      n.numbers.items ≡ [] → n.classes.items ≡ block A.first ∷ [] → Taken rel A block 0 n
-  Taken-start count n within by_block numbers classes = record {
+  pub Taken-start : (n : Numbers) → n.by_block.items ≡ set (replicate count NONE) (block A.first) 0 →
+      n.numbers.items ≡ [] → n.classes.items ≡ block A.first ∷ [] → Taken rel A block count 0 n
+  Taken-start n by_block numbers classes = record {
+    room = rw by_block (omega (arith, length-set {A = ℕ}, length-replicate {A = ℕ}));
+    below = rw classes (λ i l. grind (arith, common_steps, inside A.first sys.first));
+    low = λ b l some. grind (arith, at b l, some, ap length classes);
+    tied = λ b i l. rw classes (λ below. grind (arith, common_steps, at b l));
+    first = grind (arith, at (block A.first) (inside A.first sys.first));
     numbers_long = ap length numbers;
-    first = grind (arith, at A.first, laws.system.first);
     seen = λ t l. absurd (omega (arith, l));
-    numbered = λ t l some. elim (at t l) [
-      | inl (e, is) ↦ rw is (
-        omega (arith, ap length classes),
-        λ u way to. number_shared A.first u 0 ([], refl) way (sym (to ∙ e)) (
-          A.first,
-          inl ((share A.first A.first ([], refl) ([], refl)).0 refl, refl),
-          inl (refl, refl),
-        ),
-      )
-      | inr (d, is) ↦ absurd (some is)
+    number = λ t path some. elim (at (block t) (inside t (reachable_below A sys t path))) [
+      | inl (e, is) ↦ rw is (number_carried rel A sys A.first t 0 ((share A.first t ([], refl) path).0 (sym e))
+          (first_number rel A sys))
+      | inr (_, is) ↦ absurd (some is)
     ];
-    classes = λ t i l. rw classes (λ below. grind (arith, common_steps, at t l));
-    counted = (0, laws.none, ap length classes);
-    fewer = λ l. absurd (omega (arith, l));
+    counted = λ sys'. omega (arith, ap length classes, place_few rel A sys' 0);
   }
     where
-      at : (t : ℕ) → t < A.states → ((block t ≡ block A.first) × (number_at block n t ≡ 0))
-          ⊎ ((block t ≢ block A.first) × (number_at block n t ≡ NONE))
-      at t l =
-          let blank = get_or-replicate count (block t) NONE 0 (within t l) in
-          let room = within A.first laws.system.first in
+      at : (b : ℕ) → b < count → ((b ≡ block A.first) × (slice_index n.by_block.items b ≡ 0))
+          ⊎ ((b ≢ block A.first) × (slice_index n.by_block.items b ≡ NONE))
+      at b l =
+          let blank = get_or-replicate count b NONE 0 l in
+          let room = inside A.first sys.first in
           let same = get_or-set_same (replicate count NONE) (block A.first) 0 0
           (omega (arith, room, length-replicate {A = ℕ})) in
-          let other = get_or-set_other (replicate count NONE) (block A.first) (block t) 0 0 in
-          rw by_block (grind (arith, cases_eq (block t) (block A.first), same, other, blank))
+          let other = get_or-set_other (replicate count NONE) (block A.first) b 0 0 in
+          rw by_block (grind (arith, cases_eq b (block A.first), same, other, blank))

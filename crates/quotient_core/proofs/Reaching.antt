@@ -4,21 +4,22 @@
 use Rattle.std.proofs.lemmas.List.{get_or_default, get_or-set_same, get_or-set_other, length-replicate, get_or_past}
 use Rattle.std.proofs.lemmas.List.{length-set, append-nil}
 use Rattle.std.proofs.Common.{◌≢◌, sum_by, ap, ◌≡◌, ◌⊎◌, ℕ, ◌+◌, ◌<◌, Bool, true, false, cond, not, ◌&&◌, eqb, ltb}
-use Rattle.std.proofs.Common.{List, [], ◌∷◌, ◌++◌, length, get_or, set, replicate, Contains, inl, inr, arith, rules}
+use Rattle.std.proofs.Common.{List, [], ◌∷◌, ◌++◌, length, get_or, set, replicate, Contains, refl, inl, inr, arith}
+use Rattle.std.proofs.Common.{rules}
 use Rattle.std.proofs.lemmas.Grind.{common_steps}
 use Rattle.std.proofs.lemmas.Bool.Decides.{nat_tests}
 use Rattle.std.proofs.lemmas.Bool.{cases_eq, cases_Bool, both_ways}
 use Rattle.std.proofs.lemmas.List.Elements.{Contains-append_cases, Contains-append_left, Contains-append_right}
-use Rattle.std.proofs.lemmas.List.Sums.{sum_by_push}
+use Rattle.std.proofs.lemmas.List.Sums.{sum_by_push, sum_by-cons}
 use Rattle.theory.specs.System.{Step, Reachable}
 use Rattle.theory.proofs.CallerLemmas.{contains_here, contains_there, contains_cases, contains_none}
 use Rattle.lts.specs.Lts.{Triple, row_of, Grouped, system_of}
-use Rattle.lts.specs.Meter.{Counts, Costs}
+use Rattle.lts.specs.Meter.{Counts, HasRoomFor, Costs}
 use Rattle.quotient_core.specs.Numbers.{IsMarked}
 use Rattle.quotient_core.specs.Search.{MarksState, Searches, ReadsOnce, is_ahead, places_ahead}
 use Rattle.quotient_core.specs.Triples.{rows_of}
 use Rattle.quotient_core.specs.declared.search.Search.{Search}
-use Rattle.quotient_core.proofs.Visits.{visits_then, rows_part, rows_few}
+use Rattle.quotient_core.proofs.Visits.{visits_then, room_after, rows_part, rows_few}
 
 -- `Follows` holds if the following is true for each marked state u that the scan of the search has passed and that is
 -- not in the queue `waiting`. If the relation R leads from u to a state v with some label, then v is marked. The search
@@ -34,10 +35,11 @@ marked_below states marked s size m = search (rules, both_ways, get_or_past)
 
 -- Suppose that only the first state is marked, that the queue is empty, and that no transition was read yet. Then the
 -- invariant of the search (`ReadsOnce`) holds.
-pub ReadsOnce-first : (g : Grouped) (at : Counts) → g.first < g.states → Reachable (system_of g) g.first →
+pub ReadsOnce-first : (g : Grouped) (at : Counts) → g.first < g.states →
     ReadsOnce g (set (replicate g.states false) g.first true) 0 [] at at
-ReadsOnce-first g at below reached = record {
+ReadsOnce-first g at below = record {
   search =
+      let reached : Reachable (system_of g) g.first = ([], refl) in
       let none : (s : ℕ) → get_or (replicate g.states false) s false ≡ false = λ s. grind (arith, common_steps) in
       search (rules, length-replicate, both_ways, none, get_or-set_other, contains_none);
   visits =
@@ -98,45 +100,32 @@ module _ {t next : ℕ} {old new : Search} (marks : MarksState t next old new) (
         (ap (λ p. length (rows_of p places) + sum_by row old.queue.items) (λ i u. same u i))
   ]
 
--- The following lemmas assume that the invariant of the search holds (`ReadsOnce`). The invariant implies that the
--- number of visits (reads of transitions that the meter counts) is at most the number of transitions that the search no
--- longer has to read.
+-- The following lemmas assume that the invariant of the search holds (`ReadsOnce`). The search scans the states in
+-- ascending order, and the scan passes the state `next`.
 module _ {g : Grouped} {marked : List Bool} {next : ℕ} {waiting : List ℕ} {old mid : Counts}
     (reads : ReadsOnce g marked next waiting old mid) where
-  pub ReadsOnce-row : {row past : ℕ} {more : List Bool} {left : List ℕ} {new : Counts} → Costs mid new 0 0 row →
-      places_ahead g.places next marked waiting ≡ places_ahead g.places past more left + row →
-      Searches g more past left → ReadsOnce g more past left old new
-  ReadsOnce-row {row} costs e search = record {
-    search = search;
-    visits = (reads.visits.0 + row, visits_then reads.visits.1 costs (omega arith), omega (arith, reads.visits.2, e));
-  }
+  -- If the state `next` is marked, it is added at the front of the queue. The invariant of the search (`ReadsOnce`)
+  -- then holds after the scan has passed `next`.
+  pub ReadsOnce-pass : {b : Bool} {states : ℕ} → states ≡ g.states → next < states → b ≡ get_or marked next b → b ≡ true
+      → ReadsOnce g marked (next + 1) (next ∷ waiting) old mid
+  ReadsOnce-pass all low e m =
+      let held = reads.search in
+      let size = held.size in
+      let here : IsMarked marked next = grind (arith, get_or_default) in
+      let there = contains_there next waiting in
+      let on : Follows (Step (system_of g)) marked (next + 1) (next ∷ waiting) =
+      λ u v a l m r. grind (arith, cases_eq u next, held.followed u v a, contains_here next waiting, there u) in
+      let each : (u : ℕ) → Contains (next ∷ waiting) u → IsMarked marked u = search rules in
+      let part = rows_part (is_ahead next marked) (is_ahead (next + 1) marked) (λ u. eqb u next)
+      (λ u. grind (arith, nat_tests, cases_eq u next, here)) g.places in
+      let row = sum_by-cons (λ (t : ℕ). length (row_of t g.places)) next waiting in
+      record {
+        search = search (rules, held, each, on);
+        visits = (reads.visits.0, reads.visits.1, omega (arith, reads.visits.2, part, row));
+      }
 
-  -- The search scans the states in ascending order. The following lemmas are about the step in which the scan passes a
-  -- marked state, `next`. After this step, the invariant of the search (`Searches`) holds for the queue with `next`
-  -- added at its front. If the transitions of `next` are no longer counted, the number of transitions that the search
-  -- may still read has decreased by the number of transitions of `next`.
-  module _ {b : Bool} {states : ℕ} (all : states ≡ g.states) (low : next < states) (e : b ≡ get_or marked next b)
-      (m : b ≡ true) where
-    here : IsMarked marked next
-    here = let size = reads.search.size in grind (arith, get_or_default)
-
-    pub Searches-pass : Searches g marked (next + 1) (next ∷ waiting)
-    Searches-pass =
-        let held = reads.search in
-        let there = contains_there next waiting in
-        let on : Follows (Step (system_of g)) marked (next + 1) (next ∷ waiting) =
-        λ u v a l m r. grind (arith, cases_eq u next, held.followed u v a, contains_here next waiting, there u) in
-        let each : (u : ℕ) → Contains (next ∷ waiting) u → IsMarked marked u = let here = here in search rules in
-        search (rules, held, each, on)
-
-    pub places_ahead-pass : places_ahead g.places next marked waiting
-        ≡ places_ahead g.places (next + 1) marked waiting + length (row_of next g.places)
-    places_ahead-pass = let part = rows_part (is_ahead next marked) (is_ahead (next + 1) marked) (λ u. eqb u next)
-        (λ u. grind (arith, nat_tests, cases_eq u next, here)) g.places in
-        omega (arith, part)
-
-  -- The search scans the states in ascending order. Suppose that the scan passes a state that is not marked. Then the
-  -- invariant of the search (`ReadsOnce`) still holds.
+  -- If the state `next` is not marked, the invariant of the search (`ReadsOnce`) holds after the scan has passed
+  -- `next`, with the same queue.
   pub ReadsOnce-skip : get_or marked next false ≡ false → ReadsOnce g marked (next + 1) waiting old mid
   ReadsOnce-skip unmarked =
       let held = reads.search in
@@ -144,7 +133,35 @@ module _ {g : Grouped} {marked : List Bool} {next : ℕ} {waiting : List ℕ} {o
       λ u v a l m r. grind (arith, cases_eq u next, held.followed u v a, unmarked) in
       let same : (u : ℕ) → is_ahead next marked u ≡ is_ahead (next + 1) marked u =
       λ u. grind (arith, nat_tests, cases_eq u next, unmarked) in
-      let ahead = λ (p : ℕ → Bool). length (rows_of p g.places) + sum_by (λ t. length (row_of t g.places)) waiting in
-      let e : places_ahead g.places next marked waiting ≡ places_ahead g.places (next + 1) marked waiting =
-      ap ahead (λ i u. same u i) in
-      ReadsOnce-row {row = 0} (search rules) (omega (arith, e)) (search (rules, held, on))
+      let rows = ap (λ (p : ℕ → Bool). length (rows_of p g.places)) (λ i u. same u i) in
+      record {
+        search = search (rules, held, on);
+        visits = (reads.visits.0, reads.visits.1, omega (arith, rows, reads.visits.2));
+      }
+
+-- The following lemmas assume that the invariant of the search holds (`ReadsOnce`), and that the state s is at the
+-- front of the queue. The search removes s from the queue, and reads the transitions of s. A visit is a read of a
+-- transition that the meter counts.
+module _ {g : Grouped} {marked : List Bool} {next s : ℕ} {waiting : List ℕ} {old mid : Counts}
+    (reads : ReadsOnce g marked next (s ∷ waiting) old mid) where
+  abbrev row : ℕ
+  row = length (row_of s g.places)
+
+  -- If the state s is removed from the front of the queue, the number of transitions that the search may still read
+  -- decreases by the number of transitions of s.
+  pub row_ahead : places_ahead g.places next marked (s ∷ waiting) ≡ places_ahead g.places next marked waiting + row
+  row_ahead = omega (arith, sum_by-cons (λ t. length (row_of t g.places)) s waiting)
+
+  pub ReadsOnce-room : HasRoomFor old 0 (length g.places) → HasRoomFor mid 0 row
+  ReadsOnce-room room = room_after room reads.visits.1 (omega (arith, row_ahead, reads.visits.2))
+
+  module _ {new : Counts} (costs : Costs mid new 0 0 row) where
+    pub ReadsOnce-visits : Costs old new 0 0 (length g.places)
+    ReadsOnce-visits = visits_then reads.visits.1 costs (omega (arith, row_ahead, reads.visits.2))
+
+    pub ReadsOnce-row : {more : List Bool} {left : List ℕ} → places_ahead g.places next more left
+        ≡ places_ahead g.places next marked waiting → Searches g more next left → ReadsOnce g more next left old new
+    ReadsOnce-row e held =
+        let v = reads.visits.0 + row in
+        let visits = visits_then {most = v} reads.visits.1 costs (omega arith) in
+        record { search = held; visits = (v, visits, omega (arith, reads.visits.2, row_ahead, e)) }

@@ -4,9 +4,9 @@
 -- lemmas are about lists that contain exactly the quotient transitions of the states in a set (`HasShown`). These
 -- lemmas prove how such a list changes when a state is added to the set, and when such a list contains all quotient
 -- transitions of a class.
-use Rattle.std.proofs.Common.{◌-◌, get_or, ◌≡◌, ◌≢◌, ◌⊎◌, ℕ, ◌+◌, ◌<◌, ◌≤◌, Bool, false, not, ◌&&◌, IsTrue, eqb, ltb}
+use Rattle.std.proofs.Common.{◌-◌, get_or, ◌≡◌, ◌≢◌, ◌⊎◌, ◌↔◌, ℕ, ◌+◌, ◌<◌, ◌≤◌, Bool, false, not, ◌&&◌, IsTrue, eqb}
 use Rattle.std.proofs.Common.{List, [], ◌++◌, length, slice_index, Contains, IsPermutation, ap, subst, inl, inr, arith}
-use Rattle.std.proofs.Common.{map, rules, nat_eq, cond}
+use Rattle.std.proofs.Common.{ltb, map, rules, nat_eq, cond}
 use Rattle.std.specs.List.{AllPairs, dedup}
 use Rattle.std.proofs.lemmas.Cmp.{on_total, then_total, nat_cmp_total}
 use Rattle.std.proofs.lemmas.List.Filters.{dedup_is}
@@ -15,7 +15,7 @@ use Rattle.std.proofs.lemmas.List.Sorted.{Contains-permutation, IsPermutation-sy
 use Rattle.std.proofs.lemmas.Map.Keys.{Less-from_sorted}
 use Rattle.std.specs.declared.cmp.Ordering.TheVariants.{Less, Greater}
 use Rattle.std.specs.Cmp.{IsTotalOrder}
-use Rattle.std.specs.List.Sorted.{IsSorted, IsPermutation}
+use Rattle.std.specs.List.Sorted.{IsSorted}
 use Rattle.std.specs.declared.cmp.Ordering.{Ordering}
 use Rattle.std.specs.Ordering.{nat_cmp, ordering_then}
 use Rattle.std.specs.List.Retain.{IsFiltered, DiffersFromLast}
@@ -28,8 +28,8 @@ use Rattle.lts.specs.Meter.{Counts, Costs}
 use Rattle.partition.specs.Blocks.{AreStatesOf}
 use Rattle.quotient_core.specs.Numbers.{AreNumbered}
 use Rattle.quotient_core.specs.declared.numbering.Numbering.{Numbering}
-use Rattle.quotient_core.specs.Triples.{number_of, shown_by, is_reached, is_member, ShowEachOther, rows_of}
-use Rattle.quotient_core.specs.Triples.{HasShown, between_numbers, is_left_out}
+use Rattle.quotient_core.specs.Triples.{number_of, shown_by, is_reached, is_member, ShowEachOther, rows_of, HasShown}
+use Rattle.quotient_core.specs.Triples.{between_numbers, is_left_out}
 use Rattle.std.proofs.lemmas.Grind.{elements}
 use Rattle.quotient_core.proofs.Reaching.{marked_below}
 use Rattle.lts.proofs.CallerLemmas.{contains_mapped, mapped_contains, contains_passing, passing_contains}
@@ -59,23 +59,22 @@ tidied_once ys zs filtered sorted = rw (dedup_is triple_eq ys zs filtered) (λ i
     let self : triple_cmp y y ≡ Less = rw same at less in
     let bad : Less ≡ Greater = rw self at (triple_total.antisymm y y) in cc)
 
-module _ (g : Grouped) (n : Numbering) (s : ℕ) where
-  -- A quotient transition is a transition between quotient states. Each quotient transition x of the state s comes from
-  -- a transition of s, and the quotient does not leave out x.
-  pub place_of : (x : Triple) → Contains (shown_by g n s) x → (e : Triple) × Contains (row_of s g.places) e
-      × (between_numbers n s e ≡ x) × (is_left_out n.dropped (between_numbers n s e) ≡ false)
-  place_of x c =
-      let shows = passing_contains (λ y. not (is_left_out n.dropped y))
-      (map (between_numbers n s) (row_of s g.places)) x c in
-      let from = mapped_contains (between_numbers n s) (row_of s g.places) x shows.0 in
-      (from.0, from.1, from.2, rw from.2 (not-true _ shows.1))
-
-  pub shown_place : (e : Triple) → Contains (row_of s g.places) e →
-      is_left_out n.dropped (between_numbers n s e) ≡ false →
-      Contains (shown_by g n s) (between_numbers n s e)
-  shown_place e c stays = contains_passing (λ y. not (is_left_out n.dropped y))
-      (map (between_numbers n s) (row_of s g.places)) (between_numbers n s e)
-      (contains_mapped (between_numbers n s) (row_of s g.places) e c) (not_from_false _ stays)
+-- A quotient transition is a transition between quotient states. The quotient transitions of the state s are exactly
+-- the triples that come from the transitions of s and that the quotient does not leave out.
+pub shown_by-contains : (g : Grouped) (n : Numbering) (s : ℕ) (x : Triple) → Contains (shown_by g n s) x ↔
+    ((e : Triple) × Contains (row_of s g.places) e × (between_numbers n s e ≡ x)
+    × (is_left_out n.dropped (between_numbers n s e) ≡ false))
+shown_by-contains g n s x =
+    let row = row_of s g.places in
+    let stays = λ (y : Triple). not (is_left_out n.dropped y) in
+    let triples : List Triple = map (between_numbers n s) row in (
+      λ c.
+          let shows = passing_contains stays triples x c in
+          let from = mapped_contains (between_numbers n s) row x shows.0 in
+          (from.0, from.1, from.2, rw from.2 (not-true _ shows.1)),
+      λ h. subst (Contains (shown_by g n s)) h.2 (contains_passing stays triples (between_numbers n s h.0)
+          (contains_mapped (between_numbers n s) row h.0 h.1) (not_from_false _ h.3)),
+    )
 
 module _ {g : Grouped} {n : Numbering} where
   -- A quotient transition is a transition between quotient states. Suppose that each state that satisfies p satisfies
@@ -167,8 +166,8 @@ once_next g n i xs ys h own one other a b d low high =
     differ : {x : Triple} → (s : ℕ) × IsTrue (is_below n i s) × Contains (shown_by g n s) x →
         (t : ℕ) × IsTrue (is_member n i t) × Contains (shown_by g n t) x → ⊥
     differ {x} (s, low, c) (t, is, e) =
-        let (_, _, one, _) = place_of g n s x c in
-        let (_, _, two, _) = place_of g n t x e in
+        let (_, _, one, _) = (shown_by-contains g n s x).0 c in
+        let (_, _, two, _) = (shown_by-contains g n t x).0 e in
         grind (arith, nat_tests, low, is, ap source_of one, ap source_of two)
 
 -- `was_read` is true if the state s is a member of the class i, and is among the first k states that the loop of

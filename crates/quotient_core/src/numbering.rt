@@ -1,7 +1,8 @@
 //! Assigns a class number to each reachable state. The class number of a state is the number of the quotient state that
 //! represents this state. The class of the first state of the system has the class number 0. The other classes have the
-//! numbers 1, 2 and so on, in the order of their least reachable members. The module also determines which label the
-//! quotient drops: the quotient leaves out all transitions that have this label and lead from a class to itself.
+//! numbers 1, 2 and so on, in the order of their least reachable members. The module also determines which label, if
+//! any, the quotient drops: the quotient leaves out all transitions that have this label and lead from a class to
+//! itself.
 ghost use Rattle.std.specs.Prelude.{◌≡◌, ◌↔◌, ℕ, ◌<◌, true, length, IfOk, OnOk};
 ghost use Rattle.theory.specs.System.{Reachable};
 ghost use Rattle.theory.specs.Quotient.{IsDropped};
@@ -85,7 +86,7 @@ struct Numbers {
 /// Assigns a class number to each reachable state. The class number of a state is the number of the quotient state that
 /// represents this state. The blocks must be the classes of states that are bisimilar for the relation `r`. For each
 /// reachable state, the entry in `reached` must be true, and all other entries must be false. The result also stores
-/// the ID of the label that the quotient drops (`Numbering::dropped`).
+/// the ID of the label that the quotient drops, or `None` if it drops no label (`Numbering::dropped`).
 pub(crate) fn number<M: Meter>(
     alloc: Global,
     l: &Lts<M>,
@@ -99,9 +100,6 @@ pub(crate) fn number<M: Meter>(
     requires reached { (s : ℕ) → IsMarked reached.items s ↔ Reachable (system_of l.now) s }
     ensures { IfOk result (IsNumbering r l.now) }
 {
-    theory::each_state_has_a_number();
-    theory::numbers_are_classes();
-    theory::leaders_are_counted();
     let first = blocks.block_ids()[l.first() as usize];
     let mut taken = Numbers {
         by_block: vec![in alloc; NONE; blocks.count() as usize]?,

@@ -33,10 +33,6 @@ pub fn quotient_of<M: Meter>(
     ensures visits { Costs (M.counted m.old) (M.counted m.new) 0 0 (2 * length l.now.places) }
 {
     l.invariants();
-    lts::rows_are_steps();
-    theory::each_state_has_a_number();
-    theory::numbers_are_classes();
-    theory::states_without_inert_steps_show_all();
     let reached = reachable(alloc, l, m)?;
     let numbering = number(alloc, l, r, blocks, reached)?;
     let shown = shown_transitions(alloc, l, &numbering, m)?;

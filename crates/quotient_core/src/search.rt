@@ -26,7 +26,6 @@ pub fn reachable<M: Meter>(alloc: Global, l: &Lts<M>, m: &mut M) -> Result<Vec<b
     // Always
     ensures visits { Costs (M.counted m.old) (M.counted m.new) 0 0 (length l.now.places) }
 {
-    theory::steps_keep_reachable();
     let mut search = Search::over_states(alloc, l, m)?;
     while let Some(s) = search.queue.pop_front() {
         search.mark_targets(l, s, l.states(), m)?;
@@ -54,7 +53,6 @@ impl Search {
         // Always
         ensures visits { Costs (M.counted m.old) (M.counted m.new) 0 0 (length l.now.places) }
     {
-        theory::steps_keep_reachable();
         let mut search = Search {
             marked: vec![in alloc; false; l.states() as usize]?,
             queue: VecDeque::new(alloc),
@@ -107,8 +105,6 @@ impl Search {
         ensures visits { Costs (M.counted m.old) (M.counted m.new) 0 0
             (length (row_of s l.now.places)) }
     {
-        theory::steps_keep_reachable();
-        lts::rows_are_steps();
         l.invariants();
         let (start, end) = l.row(s);
         for k in start..end {

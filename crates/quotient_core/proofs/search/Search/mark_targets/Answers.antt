@@ -1,11 +1,10 @@
-use Rattle.lts.specs.Lts.{source_of, label_of, target_of, place_at, system_of}
-use Rattle.std.proofs.lemmas.List.{append-nil, get_or_default, length_push}
-use Rattle.std.proofs.Common.{ℕ, List, ◌≡◌, ap, ◌∙◌, ◌<◌, length, refl, sym, subst, arith, rules}
-use Rattle.theory.proofs.CallerLemmas.{contains_here, contains_there, contains_cases}
+use Rattle.lts.specs.Lts.{target_of, place_at, system_of}
+use Rattle.std.proofs.lemmas.List.{append-nil, length_push}
+use Rattle.std.proofs.Common.{ℕ, List, ◌≡◌, ◌∙◌, ◌<◌, length, sym, subst, arith, rules}
+use Rattle.theory.proofs.CallerLemmas.{contains_here, contains_there, contains_cases, reachable_on}
+use Rattle.lts.proofs.CallerLemmas.{step_at, place_step}
 use Rattle.std.proofs.lemmas.Bool.{cases_eq}
-use Rattle.std.proofs.lemmas.List.Elements.{Contains-get_or}
 use Rattle.theory.specs.System.{Reachable, Step}
-use Rattle.lts.specs.Labels.{text_of}
 use Rattle.quotient_core.specs.Numbers.{IsMarked}
 use Rattle.quotient_core.proofs.Reaching.{Follows, marked_below, mark_at, Searches-step}
 use Rattle.quotient_core.proofs.Reaching.{places_ahead-marks}
@@ -27,15 +26,10 @@ module _ (g : Over) (c : In_ok-mark g) where
   -- is reachable too.
   led_to : Reachable (system_of c.args.l.now) c.args.s → Reachable (system_of c.args.l.now) c.edge-target.result.1
   led_to from = let l = c.args.l.now in
-      let e = place_at l.places c.loop-k.k in
-      let a = text_of l.labels (label_of e) in
       let at : c.loop-k.k < length l.places = omega (arith, c.row-start.ensures.within) in
       let own = (c.row-start.ensures.exactly c.loop-k.k at).1 (omega (arith, c.loop-k.auto.k), omega arith) in
-      let in_row = (c.rows_are_steps.ensures.sources c.args.s l.places e).1
-      (Contains-get_or l.places c.loop-k.k (0, 0, 0) at, own) in
-      c.steps_keep_reachable.ensures.step (system_of l) c.args.s a c.edge-target.result.1 from
-      ((c.rows_are_steps.ensures.steps l c.args.s a c.edge-target.result.1).1
-      (e, in_row, refl, sym c.edge-target.ensures.target))
+      let step = rw (own, ← c.edge-target.ensures.target) at (place_step l c.loop-k.k at) in
+      reachable_on (system_of l) c.args.s _ c.edge-target.result.1 from step
 
 pub loop-k-preserved : goal.loop-k-preserved
 loop-k-preserved g c = let at = (goal.at.loop-k-preserved g c).In_ok-mark in
@@ -58,12 +52,10 @@ returns-clause-search g c = let l = c.args.l.now in
     let queue = c.loop-k.self.queue.items in
     let held = c.loop-k.invariant.search in
     let read : (a : List ℕ) (t : ℕ) → Step (system_of l) s a t → IsMarked marked t = λ a t step.
-    let (e, in_row, label, to) = (c.rows_are_steps.ensures.steps l s a t).0 step in
-    let ((j, at, is), own) = (c.rows_are_steps.ensures.sources s l.places e).0 in_row in
-    let here : place_at l.places j ≡ e = get_or_default l.places j (0, 0, 0) e at ∙ is in
-    let range = (c.row-start.ensures.exactly j at).0 (ap source_of here ∙ own) in
-    subst (IsMarked marked) (ap target_of here ∙ to) (c.loop-k.invariant.read j range.0
-    (omega (arith, range.1, c.loop-k-test.false))) in
+    let (k, at, source, _, target) = step_at l s a t step in
+    let range = (c.row-start.ensures.exactly k at).0 source in
+    subst (IsMarked marked) target
+    (c.loop-k.invariant.read k range.0 (omega (arith, range.1, c.loop-k-test.false))) in
     let on : Follows (Step (system_of l)) marked c.args.next queue =
     λ u v a low m r.
     let had = held.followed u v a low m r in
