@@ -25,8 +25,9 @@ pub struct Signer {
     search: DepthFirstSearch,
 }
 
-/// `Drop` is implemented explicitly, so that dropping a signer takes only one function call. The implementation that
-/// `#[derive(Drop)]` generates would make one call for each field.
+/// `Drop` is implemented explicitly to make proofs smaller and faster. A function that drops a signer then contains one
+/// call, which drops the whole signer. With `#[derive(Drop)]`, the function would contain one call for each field, and
+/// the proof of the function would have to treat each of these calls.
 impl Drop for Signer {
     fn drop(self) {
         let Signer {

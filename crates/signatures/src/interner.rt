@@ -27,8 +27,9 @@ pub struct Interner {
     table: Table,
 }
 
-/// `Drop` is implemented explicitly, so that dropping an interner takes only one function call. The implementation that
-/// `#[derive(Drop)]` generates would make one call for each field.
+/// `Drop` is implemented explicitly to make proofs smaller and faster. A function that drops an interner then contains
+/// one call, which drops the whole interner. With `#[derive(Drop)]`, the function would contain one call for each
+/// field, and the proof of the function would have to treat each of these calls.
 impl Drop for Interner {
     fn drop(self) {
         let Interner { bases: _, table: _ } = self;
