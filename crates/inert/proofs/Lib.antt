@@ -1,4 +1,7 @@
-pub mod parts
-pub mod invariant
-pub mod moves
-pub mod signatures
+pub mod Invariant
+pub mod Forward
+pub mod Reading
+pub mod Signatures
+pub mod Back
+pub mod Beginning
+pub mod Resting

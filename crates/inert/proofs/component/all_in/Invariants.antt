@@ -1,6 +1,5 @@
 use Rattle.std.proofs.Common.{ℕ, ◌<◌}
-use Rattle.inert.specs.Search.{item_at}
-use Rattle.inert.specs.SearchMoves.{IsItemOf}
+use Rattle.inert.specs.{Search.item_at, SearchMoves.IsItemOf}
 use Rattle.inert.proofs.component.all_in.Given as goal
 
 abbrev pub invariant-loop-item : goal.invariant-loop-item

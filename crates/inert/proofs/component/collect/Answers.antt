@@ -1,10 +1,9 @@
-use Rattle.std.proofs.Common.{◌≡◌, ◌∙◌, sym, arith, rules}
-use Rattle.std.proofs.lemmas.Grind.{common_steps}
-use Rattle.std.proofs.lemmas.List.{get_or_default, take_all}
+use Rattle.std.proofs.Common.{◌≡◌, ◌∙◌, sym, arith, rules, take_all}
+use Rattle.std.proofs.lemmas.{Grind.common_steps, List.get_or_default}
 use Rattle.inert.specs.Search.{item_at}
-use Rattle.inert.proofs.signatures.Listing.{taken_pair, taken_list}
-use Rattle.inert.proofs.component.collect.Goals as goal
+use Rattle.inert.proofs.Signatures.{taken_pair, taken_list}
 use Rattle.inert.proofs.component.collect.Goals.{in-Pair, in-Interned}
+use Rattle.inert.proofs.component.collect.Goals as goal
 
 pub loop-item-init : goal.loop-item-init
 loop-item-init c = grind (arith, common_steps)

@@ -1,7 +1,7 @@
 use Rattle.inert.specs.SearchMoves.{AreCollected}
-use Rattle.inert.proofs.signatures.Listing.{taken_ordered, numbers_there, listed}
-use Rattle.inert.proofs.component.intern_items.Goals as goal
+use Rattle.inert.proofs.Signatures.{taken_ordered, numbers_there, listed}
 use Rattle.inert.proofs.component.intern_items.Goals.{After-deref}
+use Rattle.inert.proofs.component.intern_items.Goals as goal
 
 -- A strongly connected component of inert transitions collects items. An item is a pair (label ID, block) or a
 -- signature ID. The list `pairs` contains exactly the pairs among the items. The list `signature_ids` was sorted, and

@@ -1,13 +1,10 @@
 use Rattle.std.proofs.Common.{rules, ◌≡◌, ◌∙◌, ℕ, ◌-◌, ◌<◌, ◌≤◌, List, length, slice_index, sym, inl, inr, arith, refl}
-use Rattle.std.proofs.lemmas.Bool.{cases_lt, false≢true}
-use Rattle.std.proofs.lemmas.Grind.{common_steps}
-use Rattle.inert.specs.Search.{VisitState, stage_at, Completed, KeepsVisited}
 use Rattle.std.proofs.lemmas.List.Sums.{length-filter, count_by-le-length}
-use Rattle.inert.proofs.invariant.Keeping.{stays_on, goes_on}
-use Rattle.inert.proofs.invariant.Resting.{finished}
-use Rattle.inert.proofs.signer.search_all.Given.{Over}
+use Rattle.std.proofs.lemmas.{Bool.cases_lt, Bool.false≢true, Grind.common_steps}
+use Rattle.inert.specs.Search.{VisitState, stage_at, Completed, KeepsVisited}
+use Rattle.inert.proofs.Invariant.{stays_on, goes_on}
+use Rattle.inert.proofs.{Resting.finished, signer.search_all.Given.Over, signer.search_all.Goals.After-is_unvisited}
 use Rattle.inert.proofs.signer.search_all.Goals as goal
-use Rattle.inert.proofs.signer.search_all.Goals.{After-is_unvisited}
 
 -- The loop goes through the active states (the states that the round processes), from the last to the first. Let i be
 -- the index of the current state in the list of the active states. Suppose that the active states at the indices after

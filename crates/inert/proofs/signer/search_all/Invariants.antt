@@ -1,8 +1,6 @@
 use Rattle.std.proofs.Common.{ℕ, ◌+◌, ◌<◌, ◌≤◌, length, slice_index}
 use Rattle.lts.specs.Meter.{Costs}
-use Rattle.inert.specs.Steps.{remaining}
-use Rattle.inert.specs.Search.{IsFinished, unread}
-use Rattle.inert.specs.SearchMoves.{ReturnsToRest}
+use Rattle.inert.specs.{Steps.remaining, Search.IsFinished, Search.unread, SearchMoves.ReturnsToRest}
 use Rattle.inert.proofs.signer.search_all.Given as goal
 
 abbrev pub invariant-loop-i : goal.invariant-loop-i

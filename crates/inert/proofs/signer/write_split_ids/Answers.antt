@@ -1,10 +1,7 @@
-use borrow.Author.Count.{below_more}
-use Rattle.std.proofs.Common.{◌≢◌, ◌∙◌, ℕ, ◌<◌, length, slice_index, arith}
-use Rattle.std.proofs.lemmas.Bool.{cases_eq}
-use Rattle.std.proofs.lemmas.Grind.{common_steps}
-use Rattle.std.proofs.lemmas.List.{get_or-set_same, get_or-set_other, length-set}
-use Rattle.inert.specs.Signed.{IsIdIfChanged}
-use Rattle.inert.specs.Search.{stage_at, id_of}
+use Rattle.std.proofs.Common.{below_more, ◌≢◌, ◌∙◌, ℕ, ◌<◌, length, slice_index, arith, get_or-set_same}
+use Rattle.std.proofs.Common.{get_or-set_other, length-set}
+use Rattle.std.proofs.lemmas.{Bool.cases_eq, Grind.common_steps}
+use Rattle.inert.specs.{Signed.IsIdIfChanged, Search.stage_at, Search.id_of}
 use Rattle.inert.proofs.signer.write_split_ids.Goals as goal
 
 pub loop-i-preserved : goal.loop-i-preserved

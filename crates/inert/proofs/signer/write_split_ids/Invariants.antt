@@ -1,7 +1,6 @@
 use Rattle.std.proofs.Common.{◌≡◌, ◌⊎◌, ℕ, ◌<◌, ◌≤◌, length, slice_index}
 use Rattle.partition.specs.Blocks.{IsMember}
-use Rattle.inert.specs.Signed.{IsIdIfChanged}
-use Rattle.inert.specs.Search.{stage_at, id_of}
+use Rattle.inert.specs.{Signed.IsIdIfChanged, Search.stage_at, Search.id_of}
 use Rattle.inert.proofs.signer.write_split_ids.Given as goal
 
 abbrev pub invariant-loop-i : goal.invariant-loop-i

@@ -1,15 +1,12 @@
 use Rattle.std.proofs.Common.{rules, ◌∙◌, set, ap, sym, arith}
-use Rattle.std.proofs.lemmas.Bool.{false≢true}
-use Rattle.std.proofs.lemmas.Grind.{common_steps}
+use Rattle.std.proofs.lemmas.{Bool.false≢true, Grind.common_steps}
 use Rattle.lts.proofs.CallerLemmas.{price_none, price_first, price_one_more}
 use Rattle.lts.specs.Meter.{Costs}
-use Rattle.inert.specs.Steps.{remaining}
-use Rattle.inert.specs.Search.{Search, Completed, unread}
-use Rattle.inert.proofs.invariant.Resting.{within}
-use Rattle.inert.proofs.moves.Beginning.{begins, takes_framed, takes_bare, begun_ends}
+use Rattle.inert.specs.{Steps.remaining, Search.Search, Search.Completed, Search.unread}
+use Rattle.inert.proofs.Beginning.{begins, takes_framed, takes_bare, begun_ends}
 use Rattle.inert.proofs.depth_first_search.DepthFirstSearch.begin.Given.{Over}
+use Rattle.inert.proofs.{Resting.within, depth_first_search.DepthFirstSearch.begin.Goals.After-step-step}
 use Rattle.inert.proofs.depth_first_search.DepthFirstSearch.begin.Goals as goal
-use Rattle.inert.proofs.depth_first_search.DepthFirstSearch.begin.Goals.{After-step-step}
 
 pub loop-k-init : goal.loop-k-init
 loop-k-init g c = let rests = c.requires.rests in

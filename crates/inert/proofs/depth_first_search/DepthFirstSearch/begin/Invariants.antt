@@ -1,7 +1,6 @@
 use Rattle.std.proofs.Common.{◌≡◌}
-use Rattle.lts.specs.Meter.{Costs}
-use Rattle.lts.specs.Visited.{price_between}
-use Rattle.inert.proofs.moves.Beginning.{collecting, framed, Begins}
+use Rattle.lts.specs.{Meter.Costs, Visited.price_between}
+use Rattle.inert.proofs.Beginning.{collecting, framed, Begins}
 use Rattle.inert.proofs.depth_first_search.DepthFirstSearch.begin.Given as goal
 
 abbrev pub invariant-loop-k : goal.invariant-loop-k

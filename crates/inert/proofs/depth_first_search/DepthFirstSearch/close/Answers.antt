@@ -1,6 +1,6 @@
 use Rattle.std.proofs.Common.{rules, arith}
 use Rattle.std.proofs.lemmas.Grind.{elements}
-use Rattle.inert.proofs.invariant.Standing.{open_inside}
+use Rattle.inert.proofs.Invariant.{open_inside}
 use Rattle.inert.proofs.depth_first_search.DepthFirstSearch.close.Goals as goal
 
 pub loop-p-init : goal.loop-p-init

@@ -1,9 +1,7 @@
 use Rattle.std.proofs.Common.{rules, ◌∙◌, sym, ap, arith}
-use Rattle.std.proofs.lemmas.Bool.{false≢true}
-use Rattle.std.proofs.lemmas.Grind.{common_steps}
+use Rattle.std.proofs.lemmas.{Bool.false≢true, Grind.common_steps}
 use Rattle.inert.specs.Search.{rest}
-use Rattle.inert.proofs.invariant.Keeping.{goes_on}
-use Rattle.inert.proofs.invariant.Resting.{walk_rests, finished}
+use Rattle.inert.proofs.{Invariant.goes_on, Resting.walk_rests, Resting.finished}
 use Rattle.inert.proofs.depth_first_search.DepthFirstSearch.finish.Goals as goal
 
 pub loop-self-preserved-then-branch : goal.loop-self-preserved-then-branch

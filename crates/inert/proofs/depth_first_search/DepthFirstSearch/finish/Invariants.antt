@@ -1,8 +1,7 @@
 use Rattle.std.proofs.Common.{◌≡◌, ◌+◌}
 use Rattle.lts.specs.Meter.{Costs}
-use Rattle.inert.specs.Search.{stage_at, Unvisited, unread}
 use Rattle.inert.specs.SearchMoves.{ahead, steps, GoesOn}
-use Rattle.inert.specs.Steps.{remaining}
+use Rattle.inert.specs.{Search.stage_at, Search.Unvisited, Search.unread, Steps.remaining}
 use Rattle.inert.proofs.depth_first_search.DepthFirstSearch.finish.Given as goal
 
 abbrev pub invariant-loop-self : goal.invariant-loop-self

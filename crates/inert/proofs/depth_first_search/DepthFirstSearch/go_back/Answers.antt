@@ -1,13 +1,10 @@
 use Rattle.std.proofs.Common.{rules, ◌≡◌, ◌≢◌, ◌∙◌, length, ap, sym, subst, arith}
-use Rattle.std.proofs.lemmas.Grind.{common_steps}
-use Rattle.std.proofs.lemmas.List.{get_or_read}
+use Rattle.std.proofs.lemmas.{Grind.common_steps, List.get_or_read}
 use Rattle.inert.specs.Search.{Search, AreInternedItems}
-use Rattle.inert.proofs.parts.Tops.{here, last}
-use Rattle.inert.proofs.invariant.Standing.{last_low}
-use Rattle.inert.proofs.moves.Back.{popped, popped_size, popped_on, closed}
 use Rattle.inert.proofs.depth_first_search.DepthFirstSearch.go_back.Given.{Over}
+use Rattle.inert.proofs.{Invariant.here, Invariant.last, Invariant.last_low, Back.popped, Back.popped_size}
+use Rattle.inert.proofs.{Back.popped_on, Back.closed, depth_first_search.DepthFirstSearch.go_back.Goals.After-pop}
 use Rattle.inert.proofs.depth_first_search.DepthFirstSearch.go_back.Goals as goal
-use Rattle.inert.proofs.depth_first_search.DepthFirstSearch.go_back.Goals.{After-pop}
 
 -- A component is a strongly connected set of states on the stack. The root of a component is its first state on the
 -- stack. The variable `root` in the body of `go_back` is the root of the component at the top of the stack. Each frame

@@ -1,5 +1,4 @@
-use Rattle.std.proofs.Common.{◌∙◌, drop, ap, subst, arith}
-use Rattle.std.proofs.lemmas.List.{take_all, length-drop}
+use Rattle.std.proofs.Common.{◌∙◌, drop, ap, subst, arith, take_all, length-drop}
 use Rattle.inert.specs.SearchMoves.{IsUnionOfItems}
 use Rattle.inert.proofs.depth_first_search.DepthFirstSearch.intern_from.Goals as goal
 

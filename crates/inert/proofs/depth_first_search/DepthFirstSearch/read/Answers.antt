@@ -1,17 +1,13 @@
 use Rattle.std.proofs.Common.{rules, ◌≡◌, ◌∙◌, ℕ, ◌+◌, ◌-◌, ◌<◌, ◌≤◌, length, slice_index, set, ap, sym, subst, arith}
-use Rattle.std.proofs.lemmas.Bool.{false≢true}
-use Rattle.std.proofs.lemmas.List.{get_or_read}
-use Rattle.std.proofs.lemmas.Grind.{common_steps}
+use Rattle.std.proofs.lemmas.{Bool.false≢true, List.get_or_read, Grind.common_steps}
 use Rattle.lts.specs.Visited.{price}
 use Rattle.lts.proofs.CallerLemmas.{price_none, price_one_more}
-use Rattle.inert.specs.Search.{Search, frame_at, top}
-use Rattle.inert.proofs.parts.Tops.{here}
-use Rattle.inert.specs.SearchMoves.{HandlesStep, ahead}
-use Rattle.inert.proofs.invariant.Standing.{open_inside, on_stack}
-use Rattle.inert.proofs.moves.Reading.{Reads, Stays, Marked, marked, reads_none, next_ahead}
+use Rattle.inert.specs.{Search.Search, Search.frame_at, Search.top, SearchMoves.HandlesStep, SearchMoves.ahead}
+use Rattle.inert.proofs.Invariant.{here, open_inside, on_stack}
+use Rattle.inert.proofs.Reading.{Reads, Stays, Marked, marked, reads_none, next_ahead}
 use Rattle.inert.proofs.depth_first_search.DepthFirstSearch.read.Given.{Over}
-use Rattle.inert.proofs.depth_first_search.DepthFirstSearch.read.Goals as goal
 use Rattle.inert.proofs.depth_first_search.DepthFirstSearch.read.Goals.{After-index, In_ok-handle_step}
+use Rattle.inert.proofs.depth_first_search.DepthFirstSearch.read.Goals as goal
 
 -- The variable `block` in the body of `read` is the block of the current state, which is the state whose outgoing
 -- transitions are being read.

@@ -1,7 +1,6 @@
-use Rattle.lts.specs.Meter.{Costs}
-use Rattle.lts.specs.Visited.{price_between}
+use Rattle.lts.specs.{Meter.Costs, Visited.price_between}
 use Rattle.inert.specs.Search.{top}
-use Rattle.inert.proofs.moves.Reading.{Reads, Stays}
+use Rattle.inert.proofs.Reading.{Reads, Stays}
 use Rattle.inert.proofs.depth_first_search.DepthFirstSearch.read.Given as goal
 
 abbrev pub invariant-loop-k : goal.invariant-loop-k

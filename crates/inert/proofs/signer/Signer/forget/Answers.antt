@@ -1,6 +1,6 @@
 use Rattle.std.proofs.Common.{arith}
 use Rattle.inert.specs.Search.{Unvisited}
-use Rattle.inert.proofs.invariant.Resting.{cached_at, kept_past}
+use Rattle.inert.proofs.Resting.{cached_at, kept_past}
 use Rattle.inert.proofs.signer.Signer.forget.Goals as goal
 
 pub returns-clause-empty : goal.returns-clause-empty

@@ -1,13 +1,9 @@
 use Rattle.std.proofs.Common.{◌≡◌, ◌∙◌, sym, arith}
 use Rattle.std.proofs.Math.Path.{ap₂}
-use Rattle.inert.specs.Signed.{CachesBeside}
-use Rattle.inert.specs.Steps.{under}
-use Rattle.inert.specs.Search.{cached}
-use Rattle.inert.proofs.invariant.Resting.{woken_rests}
-use Rattle.inert.proofs.signatures.Idle.{over_again, signs_active}
-use Rattle.inert.proofs.signer.Signer.sign_each.Given.{Over}
+use Rattle.inert.specs.{Signed.CachesBeside, Steps.under, Search.cached}
+use Rattle.inert.proofs.Resting.{woken_rests, over_again, signs_active}
+use Rattle.inert.proofs.{signer.Signer.sign_each.Given.Over, signer.Signer.sign_each.Goals.After-new-lens}
 use Rattle.inert.proofs.signer.Signer.sign_each.Goals as goal
-use Rattle.inert.proofs.signer.Signer.sign_each.Goals.{After-new-lens}
 
 module _ (g : Over) (c : After-new-lens g) where
   -- The view `lens` consists of the system, the blocks and the visited transitions that the caller has passed to

@@ -1,28 +1,21 @@
 -- Lemmas about how the search reads the row (the outgoing transitions) of the current state. The code marks a
 -- transition as read before it processes the transition. The proofs use the opposite order, which has the same result.
 use Rattle.std.proofs.Common.{◌≡◌, ℕ, ◌+◌, ◌-◌, ◌<◌, ◌≤◌, List, [], ◌∷◌, length, slice_index, Bool, refl, sym, ◌∙◌, ap}
-use Rattle.std.proofs.Common.{subst, inl, inr, arith, set}
-use Rattle.std.specs.Prelude.{IsTrue}
-use Rattle.std.proofs.lemmas.Bool.{cases_Bool}
-use Rattle.std.proofs.lemmas.List.{length_push, get_or_append_left, get_or-set_same, length-set, set-append_left}
-use Rattle.theory.specs.declared.relation.Relation.TheVariants.{Branching}
-use Rattle.theory.specs.Blocks.{Inert}
+use Rattle.std.proofs.Common.{subst, inl, inr, arith, set, IsTrue, get_or-set_same, length-set}
+use Rattle.std.proofs.lemmas.{Bool.cases_Bool, List.length_push, List.get_or_append_left, List.set-append_left}
+use Rattle.theory.specs.{declared.relation.Relation.TheVariants.Branching, Blocks.Inert}
 use Rattle.lts.specs.Lts.{Triple, source_of, target_of, place_at, system_of, IsLts}
 use Rattle.lts.specs.Visited.{price, price_between}
 use Rattle.lts.proofs.CallerLemmas.{place_step, price_none, price_one_more}
-use Rattle.inert.specs.Signed.{HasPair, pair_under}
 use Rattle.inert.specs.Steps.{Under, IsInert, IsStep}
 use Rattle.inert.specs.Search.{Search, Laws, frame_at, top, IsFrame, IsFollowed, IsHandled, SearchInvariant, OnStack}
 use Rattle.inert.specs.Search.{Frame, Root, Item, Pair, Interned, unseen}
-use Rattle.inert.proofs.parts.Tops.{no_frame, here}
 use Rattle.inert.specs.SearchMoves.{with_pushed, with_item, HandlesStep, ahead, steps, GoesOn}
-use Rattle.inert.specs.declared.lens.Step.{Step as TakenStep}
 use Rattle.inert.specs.declared.lens.Step.TheVariants.{Inert as Goes, Shows}
-use Rattle.inert.proofs.invariant.Keeping.{stays_on, goes_on}
-use Rattle.inert.proofs.parts.Counting.{unseen-set, rest-next, rest-most}
-use Rattle.inert.proofs.invariant.Standing.{pair_before, list_signed}
-use Rattle.inert.proofs.moves.Forward.{SearchInvariant-collect, collected_holds, SearchInvariant-join, joined_here}
-use Rattle.inert.proofs.moves.Forward.{entered_on, entered_met, SearchInvariant-next}
+use Rattle.inert.specs.{Signed.HasPair, Signed.pair_under, declared.lens.Step.Step as TakenStep}
+use Rattle.inert.proofs.Invariant.{no_frame, here, stays_on, goes_on, unseen-set, rest-next, rest-most, pair_before}
+use Rattle.inert.proofs.Forward.{SearchInvariant-collect, collected_holds, SearchInvariant-join, joined_here}
+use Rattle.inert.proofs.{Invariant.list_signed, Forward.entered_on, Forward.entered_met, Forward.SearchInvariant-next}
 
 -- The last frame of the search records which outgoing transitions of the current state are still to be read. These
 -- lemmas assume that the first of these transitions is at the place k, which is an index in the list of all

@@ -2,13 +2,11 @@
 -- which records that no outgoing transition is still to be read, is then popped. A component is a strongly connected
 -- set of states on the stack. If the state is the first state of a component on the stack, this component is completed.
 use Rattle.std.proofs.Common.{◌≡◌, ◌≢◌, ℕ, ◌+◌, ◌-◌, ◌<◌, ◌≤◌, List, length, slice_index, sym, ◌∙◌, ap, inl, inr, rules}
-use Rattle.std.proofs.Common.{refl, arith, take, get_or, Contains}
+use Rattle.std.proofs.Common.{refl, arith, take, get_or, Contains, get_or-take, length-take-le, length-append}
 use Rattle.std.specs.List.{All}
 use Rattle.std.proofs.Math.Logic.{⊎_map}
-use Rattle.std.proofs.lemmas.Bool.{cases_eq, cases_lt}
-use Rattle.std.proofs.lemmas.Grind.{common_steps}
-use Rattle.std.proofs.lemmas.List.{get_or_default, get_or-take, length-take-le, length-append, get_or_append_left}
-use Rattle.std.proofs.lemmas.List.Elements.{All-take, All-from_get_or}
+use Rattle.std.proofs.lemmas.{Bool.cases_eq, Bool.cases_lt, Grind.common_steps, List.get_or_default}
+use Rattle.std.proofs.lemmas.{List.get_or_append_left, List.Elements.All-take, List.Elements.All-from_get_or}
 use Rattle.lts.specs.Lts.{source_of, place_at, IsLts}
 use Rattle.signatures.specs.Lists.{list_at}
 use Rattle.signatures.proofs.CallerLemmas.{Grow-same}
@@ -17,14 +15,12 @@ use Rattle.inert.specs.Search.{Search, stage_at, frame_at, IsToBeRead, IsBeingSe
 use Rattle.inert.specs.Search.{Laws, item_at, BelongsTo, IsNotBelow, IsRoot, IsInternedItem, IsFrame, AreFrames}
 use Rattle.inert.specs.Search.{AreHandled, ComponentHasPair, AreOpen, IsSigned, IsSound, Root, Pair, Interned}
 use Rattle.inert.specs.Search.{is_unvisited, unseen, KeepsVisited, rest}
-use Rattle.inert.proofs.parts.Tops.{no_frame, here, last, no_root, IsBefore, AllPairs-take, All-from_take}
 use Rattle.inert.specs.SearchMoves.{HasRead, Closes, ahead, SignsMore, GoesOn}
-use Rattle.inert.proofs.invariant.Keeping.{kept_still, KeepsStack, roots_kept, accounted_still, sound_still, AreSound}
-use Rattle.inert.proofs.invariant.Keeping.{stays_on}
-use Rattle.inert.proofs.parts.Counting.{unseen-same, unread-same, rest-cut}
-use Rattle.inert.proofs.invariant.Standing.{reached, on_stack, not_last, last_most, none_ahead, pair_before, last_low}
-use Rattle.inert.proofs.invariant.Standing.{root_low}
-use Rattle.inert.proofs.signatures.Exact.{exact}
+use Rattle.inert.proofs.Invariant.{no_frame, here, last, no_root, IsBefore, AllPairs-take, All-from_take, kept_still}
+use Rattle.inert.proofs.Invariant.{KeepsStack, roots_kept, accounted_still, sound_still, AreSound, stays_on}
+use Rattle.inert.proofs.Invariant.{unseen-same, unread-same, rest-cut, reached, on_stack, not_last, last_most}
+use Rattle.inert.proofs.Invariant.{none_ahead, pair_before, last_low, root_low}
+use Rattle.inert.proofs.Signatures.{exact}
 
 -- Each frame belongs to a state on the stack, and records which outgoing transitions of this state are still to be
 -- read. Returns the data that result from the data w of the search if the last frame is removed. The stack of states

@@ -3,34 +3,26 @@
 -- components, which are sets of states on the stack that can reach each other along inert transitions. Third, it pushes
 -- a state. Fourth, it marks a transition as read.
 use Rattle.std.proofs.Common.{◌≡◌, ◌≢◌, ℕ, ◌+◌, ◌<◌, List, length, slice_index, refl, inl, inr, arith, ◌-◌, ◌≤◌, rules}
-use Rattle.std.proofs.Common.{◌∙◌, ◌⊎◌, set, get_or}
+use Rattle.std.proofs.Common.{◌∙◌, ◌⊎◌, set, get_or, length-set, get_or-set_same, get_or-set_other}
 use Rattle.std.specs.List.{All}
-use Rattle.std.proofs.lemmas.Bool.{cases_lt, cases_eq}
-use Rattle.std.proofs.lemmas.List.{get_or_append_left, get_or_push, length_push, get_or_default, length-set}
-use Rattle.std.proofs.lemmas.List.{get_or-set_same, get_or-set_other}
+use Rattle.std.proofs.lemmas.List.{get_or_append_left, get_or_push, length_push, get_or_default}
 use Rattle.std.proofs.lemmas.List.Elements.{All-push, All-take, All-set}
 use Rattle.std.proofs.lemmas.Grind.{elements, common_steps}
-use Rattle.std.proofs.lemmas.List.Quantifiers.{all_pairs_push}
-use Rattle.std.proofs.lemmas.List.Sums.{sum_by_push}
-use Rattle.theory.specs.declared.relation.Relation.TheVariants.{Branching}
-use Rattle.theory.specs.Blocks.{Inert}
-use Rattle.lts.specs.Lts.{system_of, IsRow, place_at}
-use Rattle.lts.specs.Visited.{price_between}
+use Rattle.std.proofs.lemmas.{Bool.cases_lt, Bool.cases_eq, List.Quantifiers.all_pairs_push, List.Sums.sum_by_push}
+use Rattle.theory.specs.{declared.relation.Relation.TheVariants.Branching, Blocks.Inert}
+use Rattle.lts.specs.{Lts.system_of, Lts.IsRow, Lts.place_at, Visited.price_between}
 use Rattle.lts.proofs.CallerLemmas.{row_left}
 use Rattle.signatures.specs.Lists.{Grow}
 use Rattle.signatures.proofs.CallerLemmas.{Grow-same}
-use Rattle.inert.specs.Steps.{Under, remaining}
-use Rattle.inert.specs.Signed.{HasPair}
 use Rattle.inert.specs.Search.{HasVisitStates, Search, item_at, IsInternedItem, BelongsTo, GivesPair, ComponentHasPair}
 use Rattle.inert.specs.Search.{SearchInvariant, Item, Laws, stage_at, IsNotBelow, IsRoot, IsInComponent, Root, OnStack}
 use Rattle.inert.specs.Search.{frame_at, IsFrame, IsBeingSearched, IsToBeRead, AreOpen, AreRoots, AreFrames, AreHandled}
 use Rattle.inert.specs.Search.{AreCacheable, Connects, Unvisited, Frame, IsFollowed, IsHandled}
-use Rattle.inert.proofs.parts.Tops.{here, no_root, no_frame, IsBefore, AllPairs-take, All-from_take}
 use Rattle.inert.specs.SearchMoves.{with_item, CutsRoots, with_pushed, GoesOn, ahead}
-use Rattle.inert.proofs.parts.Counting.{unseen-set, unread-set}
-use Rattle.inert.proofs.invariant.Keeping.{kept_still, KeepsStack, roots_kept, accounted_still, sound_still, done_still}
-use Rattle.inert.proofs.invariant.Keeping.{AreSound}
-use Rattle.inert.proofs.invariant.Standing.{reached, on_stack, ties, frames_some, root_low}
+use Rattle.inert.specs.{Steps.Under, Steps.remaining, Signed.HasPair}
+use Rattle.inert.proofs.Invariant.{here, no_root, no_frame, IsBefore, AllPairs-take, All-from_take, unseen-set}
+use Rattle.inert.proofs.Invariant.{unread-set, kept_still, KeepsStack, roots_kept, accounted_still, sound_still}
+use Rattle.inert.proofs.Invariant.{done_still, AreSound, reached, on_stack, ties, frames_some, root_low}
 
 module _ {u : Under} {signatures : List (List (ℕ × ℕ))} {w : Search} (walks : SearchInvariant u signatures w) where
   abbrev grow : Grow signatures signatures

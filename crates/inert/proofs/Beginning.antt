@@ -2,24 +2,16 @@
 -- has no frame. A frame belongs to a state on the stack, and records which outgoing transitions of this state are still
 -- to be read. In the first phase, the search behaves as if its first state were on the stack and had a frame.
 use Rattle.std.proofs.Common.{rules, ◌≡◌, ℕ, ◌+◌, ◌<◌, ◌≤◌, Bool, List, [], ◌∷◌, length, slice_index, set, refl, ◌∙◌}
-use Rattle.std.proofs.Common.{ap, subst, inl, inr, arith}
-use Rattle.std.proofs.lemmas.List.{get_or-set_same, get_or-set_other}
-use Rattle.lts.specs.Lts.{place_at, IsLts, IsRow}
-use Rattle.lts.specs.Visited.{price_between}
+use Rattle.std.proofs.Common.{ap, subst, inl, inr, arith, get_or-set_same, get_or-set_other}
+use Rattle.lts.specs.{Lts.place_at, Lts.IsLts, Lts.IsRow, Visited.price_between}
 use Rattle.lts.proofs.CallerLemmas.{price_none, price_split}
 use Rattle.inert.specs.Steps.{Under, remaining, IsStep}
 use Rattle.inert.specs.Search.{Search, Laws, nothing, stage_at, VisitState, Unvisited, OnStack, Completed, Item, unread}
-use Rattle.inert.specs.Search.{SearchInvariant}
-use Rattle.inert.proofs.parts.Tops.{no_frame}
 use Rattle.inert.specs.SearchMoves.{with_pushed, LeadsOn, HandlesStep, Finishes, ahead, Closes, GoesOn, IsAtRest}
-use Rattle.inert.specs.SearchMoves.{IsUnionOfItems}
-use Rattle.inert.specs.declared.lens.Step.{Step}
 use Rattle.inert.specs.declared.lens.Step.TheVariants.{Inert as Goes, Shows}
-use Rattle.inert.proofs.invariant.Keeping.{goes_on}
-use Rattle.inert.proofs.invariant.Resting.{within}
-use Rattle.inert.proofs.moves.Forward.{entered_on}
-use Rattle.inert.proofs.moves.Reading.{Stays, reads_none, marked}
-use Rattle.inert.proofs.moves.Back.{popped, closed}
+use Rattle.inert.specs.{Search.SearchInvariant, SearchMoves.IsUnionOfItems, declared.lens.Step.Step}
+use Rattle.inert.proofs.{Invariant.no_frame, Invariant.goes_on, Resting.within, Forward.entered_on, Reading.Stays}
+use Rattle.inert.proofs.{Reading.reads_none, Reading.marked, Back.popped, Back.closed}
 
 -- Returns the data of a search with an empty stack. The argument `stages` contains the status of each state. The
 -- argument `items` contains the items that the search has collected. An item is a pair (label ID, block) or a signature

@@ -1,3 +1,0 @@
-pub mod Standing
-pub mod Keeping
-pub mod Resting

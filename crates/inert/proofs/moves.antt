@@ -1,4 +1,0 @@
-pub mod Forward
-pub mod Reading
-pub mod Back
-pub mod Beginning

@@ -1,2 +1,0 @@
-pub mod Tops
-pub mod Counting

@@ -1,3 +1,0 @@
-pub mod Listing
-pub mod Exact
-pub mod Idle
