@@ -3,15 +3,11 @@
 -- The lemmas also show how entries are put into new chains when the number of buckets changes.
 use Rattle.std.proofs.Common.{rules, ◌≡◌, ◌∙◌, ℕ, ◌+◌, ◌^◌, ◌<◌, ◌≤◌, List, [], ◌∷◌, ◌++◌, length, get_or, set, refl}
 use Rattle.std.proofs.Common.{arith, length-set, get_or-set_same, get_or-set_other}
-use Rattle.std.proofs.lemmas.Bool.{cases_eq}
-use Rattle.std.proofs.lemmas.Grind.{common_steps}
 use Rattle.std.proofs.lemmas.List.{length-map, length_push, map-append, get_or_append_left, get_or_push}
-use Rattle.std.proofs.lemmas.List.Elements.{All-push, All-same}
-use Rattle.buckets.specs.declared.chains.Entry.{Entry}
-use Rattle.buckets.specs.declared.TheConstants.{MOST_ENTRIES}
-use Rattle.buckets.specs.Buckets.{tag_at, IsLast}
-use Rattle.buckets.specs.declared.chains.TheConstants.{NO_ENTRY}
+use Rattle.std.proofs.lemmas.{Bool.cases_eq, Grind.common_steps, List.Elements.All-push, List.Elements.All-same}
 use Rattle.buckets.specs.Chains.{tags_of, bucket_of_tag, entry_at, entry_bucket, AreBuckets, IsChained, AreChained}
+use Rattle.buckets.specs.{declared.chains.Entry.Entry, declared.TheConstants.MOST_ENTRIES, Buckets.tag_at}
+use Rattle.buckets.specs.{Buckets.IsLast, declared.chains.TheConstants.NO_ENTRY}
 use Rattle.std.proofs.Math.ListN as plain
 
 -- Each bucket has a chain, which links all IDs in this bucket. Suppose that the IDs less than `count` are in the chains

@@ -5,10 +5,10 @@ use Rattle.std.proofs.Common.{rules, ◌≡◌, ℕ, ◌+◌, ◌<◌, ◌≤◌
 use Rattle.std.proofs.Common.{ap, subst, inl, inr, arith, get_or-set_same, get_or-set_other}
 use Rattle.lts.specs.{Lts.place_at, Lts.IsLts, Lts.IsRow, Visited.price_between}
 use Rattle.lts.proofs.CallerLemmas.{price_none, price_split}
-use Rattle.inert.specs.Steps.{Under, remaining, IsStep}
 use Rattle.inert.specs.Search.{Search, Laws, nothing, stage_at, VisitState, Unvisited, OnStack, Completed, Item, unread}
 use Rattle.inert.specs.SearchMoves.{with_pushed, LeadsOn, HandlesStep, Finishes, ahead, Closes, GoesOn, IsAtRest}
 use Rattle.inert.specs.declared.lens.Step.TheVariants.{Inert as Goes, Shows}
+use Rattle.inert.specs.Steps.{Under, remaining, IsStep}
 use Rattle.inert.specs.{Search.SearchInvariant, SearchMoves.IsUnionOfItems, declared.lens.Step.Step}
 use Rattle.inert.proofs.{Invariant.no_frame, Invariant.goes_on, Resting.within, Forward.entered_on, Reading.Stays}
 use Rattle.inert.proofs.{Reading.reads_none, Reading.marked, Back.popped, Back.closed}

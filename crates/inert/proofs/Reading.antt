@@ -7,12 +7,12 @@ use Rattle.theory.specs.{declared.relation.Relation.TheVariants.Branching, Block
 use Rattle.lts.specs.Lts.{Triple, source_of, target_of, place_at, system_of, IsLts}
 use Rattle.lts.specs.Visited.{price, price_between}
 use Rattle.lts.proofs.CallerLemmas.{place_step, price_none, price_one_more}
-use Rattle.inert.specs.Steps.{Under, IsInert, IsStep}
 use Rattle.inert.specs.Search.{Search, Laws, frame_at, top, IsFrame, IsFollowed, IsHandled, SearchInvariant, OnStack}
 use Rattle.inert.specs.Search.{Frame, Root, Item, Pair, Interned, unseen}
 use Rattle.inert.specs.SearchMoves.{with_pushed, with_item, HandlesStep, ahead, steps, GoesOn}
 use Rattle.inert.specs.declared.lens.Step.TheVariants.{Inert as Goes, Shows}
-use Rattle.inert.specs.{Signed.HasPair, Signed.pair_under, declared.lens.Step.Step as TakenStep}
+use Rattle.inert.specs.Steps.{Under, IsInert, IsStep}
+use Rattle.inert.specs.{declared.lens.Step.Step as TakenStep, Signed.HasPair, Signed.pair_under}
 use Rattle.inert.proofs.Invariant.{no_frame, here, stays_on, goes_on, unseen-set, rest-next, rest-most, pair_before}
 use Rattle.inert.proofs.Forward.{SearchInvariant-collect, collected_holds, SearchInvariant-join, joined_here}
 use Rattle.inert.proofs.{Invariant.list_signed, Forward.entered_on, Forward.entered_met, Forward.SearchInvariant-next}

@@ -8,8 +8,8 @@ use Rattle.std.proofs.lemmas.{Bool.cases_lt, List.Sums.count_by-le-length, Grind
 use Rattle.partition.specs.Blocks.{IsMember, InactiveHaveNone}
 use Rattle.inert.specs.Search.{Search, nothing, stage_at, id_of, cached, AreCacheable, IsFinished, HasEnded}
 use Rattle.inert.specs.Search.{AreMarkedUnvisited, HasVisitStates, is_unvisited, SearchInvariant, Unvisited, OnStack}
-use Rattle.inert.specs.{Steps.Under, Signed.CachesBeside, Signed.SignsActive, Signed.IsIdIfChanged, Search.Completed}
-use Rattle.inert.specs.{Search.VisitState, SearchMoves.IsAtRest, SearchMoves.ReturnsToRest}
+use Rattle.inert.specs.{Search.Completed, Search.VisitState, Steps.Under, Signed.CachesBeside, Signed.SignsActive}
+use Rattle.inert.specs.{Signed.IsIdIfChanged, SearchMoves.IsAtRest, SearchMoves.ReturnsToRest}
 use Rattle.inert.proofs.Invariant.{no_root, frames_some, root_low}
 
 -- States are numbers. If the number s is at least the number of states, so that there is no state s, then the cached

@@ -15,9 +15,8 @@ use Rattle.theory.specs.{declared.relation.Relation.TheVariants.Branching, Block
 use Rattle.lts.specs.{Labels.text_of, Lts.source_of, Lts.label_of, Lts.place_at, Lts.system_of, Lts.IsLts}
 use Rattle.lts.proofs.CallerLemmas.{step_at}
 use Rattle.inert.specs.Search.{Search, Laws, item_at, GivesPair, ComponentHasPair, IsHandled, IsSigned, SearchInvariant}
-use Rattle.inert.specs.Search.{Item, AreInternedItems, Pair, Interned}
-use Rattle.inert.specs.SearchMoves.{IsUnionOfItems, HasRead, AreCollected}
-use Rattle.inert.specs.{Steps.Under, Signed.HasPair, Signed.pair_under}
+use Rattle.inert.specs.{Search.Item, Search.AreInternedItems, Search.Pair, Search.Interned, SearchMoves.IsUnionOfItems}
+use Rattle.inert.specs.{SearchMoves.HasRead, SearchMoves.AreCollected, Steps.Under, Signed.HasPair, Signed.pair_under}
 use Rattle.inert.proofs.Invariant.{here, last, no_root, pair_before, list_signed, last_low, last_most, last_frame}
 use Rattle.inert.proofs.Invariant.{none_ahead}
 use Rattle.std.specs.{List.Retain.IsFiltered, List.Retain.DiffersFromLast, List.Sorted.IsPermutation}

@@ -1,35 +1,27 @@
 -- Lemmas about a search along inert transitions, which are internal transitions within a block. Some lemmas show how
 -- the data of the search changes when the search explores a transition. Other lemmas show that, at the end of the
 -- search, the collected pairs are the branching signature of the state at which the search began.
-use Rattle.std.proofs.Common.{rules, ◌≡◌, ◌∙◌, ◌↔◌, ℕ, ◌+◌, ◌<◌, ◌≤◌, Bool, true, false, cond, eqb, IsTrue}
-use Rattle.std.proofs.Common.{List, [], ◌∷◌, ◌++◌, length, set, take, slice_index, slice_index_or, Contains, ap, sym}
-use Rattle.std.proofs.Common.{subst, refl, inl, inr, arith}
-use Rattle.std.proofs.lemmas.Grind.{common_steps}
-use Rattle.std.specs.Io.{StartsWith}
-use Rattle.std.specs.List.{IsDistinct, filter, list_any, sum_by}
-use Rattle.std.specs.List.Sorted.{IsStrictlySortedBy}
-use Rattle.std.proofs.Transfers.{starts_with_of_eq, starts_with_trans}
-use borrow.Author.Count.{below_more}
-use Rattle.std.proofs.lemmas.Bool.Decides.{nat_tests}
-use Rattle.std.proofs.lemmas.List.{length-set, length_push, get_or_append_left, take_at, take_all}
-use Rattle.std.proofs.lemmas.List.Elements.{All-push, All-contains, All-from_get_or, All-from_recursion}
-use Rattle.std.proofs.lemmas.List.Elements.{Contains-push, Contains-push_cases, Contains-append_left}
-use Rattle.std.proofs.lemmas.List.Folds.{list_any_none}
+use Rattle.std.proofs.Common.{rules, ◌≡◌, ◌∙◌, ◌↔◌, ℕ, ◌+◌, ◌<◌, ◌≤◌, Bool, true, false, cond, eqb, IsTrue, List, []}
+use Rattle.std.proofs.Common.{◌∷◌, ◌++◌, length, set, take, slice_index, slice_index_or, Contains, ap, sym, subst, refl}
+use Rattle.std.proofs.Common.{inl, inr, arith, below_more, length-set, take_at, take_all}
+use Rattle.std.proofs.lemmas.List.Elements.{All-push, All-contains, All-from_get_or, All-from_recursion, Contains-push}
+use Rattle.std.proofs.lemmas.List.Elements.{Contains-push_cases, Contains-append_left}
 use Rattle.std.proofs.lemmas.List.Sums.{length-filter, count_by-le-length, get_or-le-sum_by, sum_by-cons}
-use Rattle.std.proofs.lemmas.List.Sums.{sum_by_more_le}
 use Rattle.std.proofs.lemmas.Map.Keys.{IsDistinct-head, IsDistinct-tail}
+use Rattle.std.proofs.lemmas.{Grind.common_steps, Bool.Decides.nat_tests, List.length_push, List.get_or_append_left}
+use Rattle.std.proofs.lemmas.{List.Folds.list_any_none, List.Sums.sum_by_more_le}
+use Rattle.std.specs.List.{IsDistinct, filter, list_any, sum_by}
+use Rattle.std.specs.{Io.StartsWith, List.Sorted.IsStrictlySortedBy}
+use Rattle.std.proofs.Transfers.{starts_with_of_eq, starts_with_trans}
 use Rattle.theory.specs.System.{System, Step, Leads, internal}
-use Rattle.theory.specs.declared.relation.Relation.TheVariants.{Branching}
-use Rattle.theory.specs.Blocks.{Inert}
+use Rattle.theory.specs.{declared.relation.Relation.TheVariants.Branching, Blocks.Inert}
 use Rattle.lts.specs.Labels.{text_of}
 use Rattle.lts.specs.Lts.{Triple, source_of, label_of, target_of, row_of, place_at, system_of, IsTriple, IsLts}
 use Rattle.lts.proofs.CallerLemmas.{length-filter-sum, step_at, place_step}
 use Rattle.signatures.specs.Lists.{pair_cmp}
-use Rattle.inert.specs.Signed.{HasPair, IsSignature, pair_under}
-use Rattle.inert.specs.Steps.{Under, IsInert, IsStep}
-use Rattle.inert.specs.Search.{LeadsInertly, Laws}
-use Rattle.inert.specs.declared.lens.Step.{Step as RowStep}
 use Rattle.inert.specs.declared.lens.Step.TheVariants.{Inert as Goes, Shows}
+use Rattle.inert.specs.{Signed.HasPair, Signed.IsSignature, Signed.pair_under, Steps.Under, Steps.IsInert, Steps.IsStep}
+use Rattle.inert.specs.{Search.LeadsInertly, Search.Laws, declared.lens.Step.Step as RowStep}
 use Rattle.refine_core.specs.Index.{IsUnmarked}
 use Rattle.partition.proofs.CallerLemmas.{in_one}
 use Rattle.refine_core.proofs.CallerLemmas.{none_marked, marked_more}

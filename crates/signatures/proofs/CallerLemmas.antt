@@ -2,5 +2,4 @@
 -- proof file of this crate.
 pub use Rattle.signatures.proofs.Ascending.{ascending_none, ascending_unique}
 pub use Rattle.signatures.proofs.Joining.{Grow-same, Grow-twice}
-pub use Rattle.signatures.proofs.Keeping.{slice_range-append, slice_range-last}
-pub use Rattle.signatures.proofs.Storing.{All-only}
+pub use Rattle.signatures.proofs.Storing.{slice_range-append, slice_range-last, All-only}

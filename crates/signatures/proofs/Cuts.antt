@@ -1,16 +1,113 @@
--- The split point of a list is the number at which the list is divided into two halves (`IsCut`). To compare a pair
--- (x, y) with the split point, the pair is represented by the number x * 2^32 + y (`pair_value`). The first half
--- contains the pairs that are less than the split point, and the second half contains all other pairs. A list has at
--- most one split point. Suppose that the split point of a list is greater than `low` and at most `high`. Among all
--- numbers that are greater than `low` and at most `high`, let c be the number that is divisible by the highest power of
--- two (`IsCutPoint`). Then c is the split point of the list, or all pairs of the list are less than c, or all pairs of
--- the list are at least c.
-use Rattle.std.proofs.Common.{rules, ◌≡◌, ◌∙◌, ℕ, ◌+◌, ◌-◌, ◌*◌, ◌/◌, ◌%◌, ◌^◌, ◌<◌, ◌≤◌, List, Contains, ap, sym, inl}
-use Rattle.std.proofs.Common.{inr, arith}
+-- The split point of a list is the number at which the list is divided into two halves (`IsCut`). To compare a pair (x,
+-- y) with the split point, the pair is represented by the number x * 2^32 + y (`pair_value`). If the second component
+-- of each pair is less than 2^32 (`Fit`), the order of the pairs is the order of these numbers. The first half of a
+-- list contains the pairs that are less than the split point, and the second half contains all other pairs. If the list
+-- is in ascending order, so are both halves. A list has at most one split point. This number depends only on the first
+-- and the last pair of the list. Among all numbers that are greater than the first pair and at most the last pair, it
+-- is the number that is divisible by the highest power of two (`IsCutPoint`). The last lemmas show under which
+-- conditions two interned lists are the halves of a list, and that no two other interned lists are the halves of this
+-- list.
+use Rattle.std.proofs.Common.{rules, ◌≡◌, ◌↔◌, ◌⊎◌, ℕ, ◌+◌, ◌^◌, ◌<◌, ◌≤◌, List, [], ◌∷◌, ◌++◌, length, get_or, take}
+use Rattle.std.proofs.Common.{drop, true, false, ltb, Contains, Less, inl, inr, arith, take-append-drop, length-drop}
+use Rattle.std.proofs.Common.{length-append, get_or-take, get_or-drop, get_or-append-add, ◌∙◌, ◌-◌, ◌*◌, ◌/◌, ◌%◌, ap}
+use Rattle.std.proofs.Common.{sym, shr-shr, div-add-mod', ◌≢◌, suc, bit_xor, add-one, div-mul-le_self, pow_pos, min}
+use Rattle.std.proofs.Common.{max, ⊎_elim}
+use Rattle.std.specs.List.Sorted.{IsStrictlySortedBy, IsNonDecreasingBy, IsPartitionPoint}
+use Rattle.std.specs.Int.Count.{count_leading_zeros}
+use Rattle.std.proofs.lemmas.Bool.{cases_eq, cases_lt, cases_order}
+use Rattle.std.proofs.lemmas.List.Elements.{Contains-append_cases, Contains-append_left, Contains-append_right}
+use Rattle.std.proofs.lemmas.Map.Keys.{sorted_from_all_adjacent, sorted_tail, Less-from_sorted}
+use Rattle.std.proofs.lemmas.Nat.{shl-shr, le-div, xor_shr, xor_lt, leading_top}
+use Rattle.std.proofs.lemmas.Nat.Bits.{same_from_bits, bit_at_xor, bit_at-zero, bit_at-lt}
+use Rattle.std.proofs.lemmas.{List.Elements.Contains-get_or, List.places, List.get_or_default, Grind.common_steps}
+use Rattle.signatures.specs.Cuts.{pair_value, Fit, IsUnder, IsOver, IsCut, IsParted, IsCutPoint, IsAlike}
+use Rattle.signatures.specs.Lists.{pair_cmp, list_at}
+use Rattle.signatures.specs.{declared.nodes.Halves.Halves, declared.nodes.TheConstants.MOST_WHOLE, Nodes.AreStored}
+use Rattle.signatures.specs.{Nodes.AreHalvesIn, Hashed.AreDifferent, Unions.Unites}
+use Rattle.signatures.proofs.Ascending.{pair_total, here, there, ascending_cons, ascending_first, ascending_unique}
 use Rattle.std.proofs.Math.Pow.{shr_mono}
-use Rattle.std.proofs.lemmas.Bool.{cases_lt, cases_order}
-use Rattle.std.proofs.lemmas.Nat.{shr-shr, div-add-mod'}
-use Rattle.signatures.specs.Cuts.{pair_value, IsCutPoint, IsAlike, IsCut, IsUnder, IsOver}
+
+pub less_from_key : (x y : ℕ × ℕ) → x.1 < 2 ^ 32 → y.1 < 2 ^ 32 → pair_value x < pair_value y → pair_cmp x y ≡ Less
+less_from_key x y small fits h = search rules
+
+pub key_from_less : (x y : ℕ × ℕ) → x.1 < 2 ^ 32 → y.1 < 2 ^ 32 → pair_cmp x y ≡ Less → pair_value x < pair_value y
+key_from_less x y small fits h = search rules
+
+pub halves_has : (below above : List (ℕ × ℕ)) (z : ℕ × ℕ) →
+    Contains (below ++ above) z ↔ (Contains below z ⊎ Contains above z)
+halves_has below above z =
+    let first = Contains-append_left below above z in
+    grind (arith, first, Contains-append_cases below above z, Contains-append_right below above z)
+
+-- Each pair (x, y) is represented by the number x * 2^32 + y (`pair_value`). Suppose that two lists are in strictly
+-- ascending order, and that the second component of each of their pairs is less than 2^32 (`Fit`). Suppose also that
+-- all pairs of the first list are less than the number c, and that all pairs of the second list are at least c. Then
+-- the first list followed by the second list is in strictly ascending order.
+pub halves_ascending : (below above : List (ℕ × ℕ)) (c : ℕ) → IsStrictlySortedBy pair_cmp below
+    → IsStrictlySortedBy pair_cmp above → Fit below → Fit above
+    → IsUnder below c → IsOver above c → IsStrictlySortedBy pair_cmp (below ++ above)
+halves_ascending [] above c ascending_below ascending_above fit_below fit_above under over = ascending_above
+halves_ascending (x ∷ xs) above c ascending_below ascending_above fit_below fit_above under over =
+    ascending_cons pair_total x (xs ++ above) (λ y d.
+    let first = ascending_first pair_total x xs ascending_below y in
+    let less = less_from_key x y (fit_below x (here x xs)) in
+    grind (arith, Contains-append_cases xs above y d, over y, fit_above y, first, under x (here x xs), less))
+    (halves_ascending xs above c (sorted_tail pair_cmp x xs ascending_below) ascending_above
+    (λ z d. fit_below z (there x xs z d)) fit_above (λ z d. under z (there x xs z d)) over)
+
+-- Suppose that a list is in strictly ascending order, and that the second component of each of its pairs is less than
+-- 2^32 (`Fit`). Then the numbers that represent its pairs (`pair_value`) are in ascending order.
+pub ascending_keys : (list : List (ℕ × ℕ)) → IsStrictlySortedBy pair_cmp list → Fit list
+    → IsNonDecreasingBy pair_value list
+ascending_keys list ascending fit i j d low high =
+    let key = key_from_less (get_or list i d) (get_or list j d) (fit _ (Contains-get_or list i d (omega arith)))
+    (fit _ (Contains-get_or list j d high)) in
+    grind (arith, cases_eq i j, Less-from_sorted pair_cmp list i j d ascending, key, low, high)
+
+-- Each pair (x, y) is represented by the number x * 2^32 + y (`pair_value`). Suppose that the first i pairs of a list
+-- are less than the number c, and that all other pairs of the list are at least c. Then the number c divides the list
+-- into its first i pairs and its remaining pairs (`IsParted`).
+pub parted_is : (list : List (ℕ × ℕ)) (c i : ℕ) → i ≤ length list
+    → IsPartitionPoint (λ z. ltb (pair_value z) c ≡ true) (λ z. ltb (pair_value z) c ≡ false) list i
+    → IsParted list c (take i list) (drop i list)
+parted_is list c i within point = search (rules, take-append-drop, get_or-take, length-drop, get_or-drop)
+
+-- If the list xs followed by the list ys is in strictly ascending order, then both xs and ys are in strictly ascending
+-- order.
+ascending_both : (xs ys : List (ℕ × ℕ)) → IsStrictlySortedBy pair_cmp (xs ++ ys)
+    → IsStrictlySortedBy pair_cmp xs × IsStrictlySortedBy pair_cmp ys
+ascending_both xs ys ascending = (
+  sorted_from_all_adjacent pair_total xs (0, 0) (λ k low. search (rules, places, Less-from_sorted, ascending)),
+  sorted_from_all_adjacent pair_total ys (0, 0) (λ k low.
+      rw (← get_or-append-add xs ys k (0, 0), ← get_or-append-add xs ys (k + 1) (0, 0))
+      (Less-from_sorted pair_cmp (xs ++ ys) _ _ (0, 0) ascending (omega arith) (omega (arith, length-append xs ys)))),
+)
+
+-- Suppose that a number divides a list of pairs into two parts: the pairs whose numbers (`pair_value`) are less than
+-- this number, and the other pairs. If the list is in strictly ascending order, both parts are in strictly ascending
+-- order. If the second component of each pair of the list is less than 2^32 (`Fit`), this is also true of each pair of
+-- both parts.
+module _ {list below above : List (ℕ × ℕ)} {c : ℕ} (parted : IsParted list c below above) where
+  pub parts_has : (z : ℕ × ℕ) → Contains list z ↔ (Contains below z ⊎ Contains above z)
+  parts_has z = rw parted.joined (halves_has below above z)
+
+  pub parts_both : IsStrictlySortedBy pair_cmp list → Fit list
+      → (IsStrictlySortedBy pair_cmp below × Fit below) × (IsStrictlySortedBy pair_cmp above × Fit above)
+  parts_both ascending fit =
+      let both = ascending_both below above (rw parted.joined at ascending) in
+      ((both.0, λ z d. fit z ((parts_has z).1 (inl d))), (both.1, λ z d. fit z ((parts_has z).1 (inr d))))
+
+  pub below_has : (z : ℕ × ℕ) → Contains below z ↔ (Contains list z × (pair_value z < c))
+  below_has z = grind (arith, parts_has z, parted.under z, parted.over z)
+
+  pub above_has : (z : ℕ × ℕ) → Contains above z ↔ (Contains list z × (c ≤ pair_value z))
+  above_has z = grind (arith, parts_has z, parted.under z, parted.over z)
+
+  -- Suppose that a list is divided into two halves at its split point (`IsCut`). Then each of the two halves has fewer
+  -- pairs than the list.
+  pub parts_shorter : IsCut list c → (length below < length list) × (length above < length list)
+  parts_shorter cut =
+      grind (arith, below_has cut.below.0, above_has cut.above.0, cut.below, cut.above, parted.joined, length-append)
 
 -- Suppose that two numbers have the same bits at all bit positions from m on, and that n is at least m. Then the two
 -- numbers have the same bits at all bit positions from n on.
@@ -106,3 +203,141 @@ module _ (list : List (ℕ × ℕ)) where
       ((z : ℕ × ℕ) → Contains list z → (low ≤ pair_value z) × (pair_value z ≤ high)) → IsAlike bit list c
   alike_within bit low high c place range =
       record { multiple = place.multiple; alike = λ z in_z. search (rules, shr_mono, range z in_z, place) }
+
+-- The function `cut` finds the highest bit in which the numbers `low` and `high` differ, and clears all lower bits of
+-- `high`. Among all numbers that are greater than `low` and at most `high`, the result is the number that is divisible
+-- by the highest power of two (`IsCutPoint`). A list of pairs is divided into two halves at this number, if `low`
+-- represents the first pair of the list and `high` represents the last pair.
+
+same_from_xor : (a b : ℕ) → bit_xor a b ≡ 0 → a ≡ b
+same_from_xor a b none =
+    same_from_bits a b (λ i. grind (arith, bit_at_xor a b i, none, bit_at-zero i, bit_at-lt a i, bit_at-lt b i))
+
+IsCutPoint-highest : (low high bit : ℕ) → low < high → 2 ^ bit ≤ bit_xor low high → bit_xor low high < 2 ^ (bit + 1)
+    → IsCutPoint bit low high (high / 2 ^ bit * 2 ^ bit)
+IsCutPoint-highest low high bit before reaches below =
+    let none : bit_xor low high / 2 ^ (bit + 1) < 1 = search rules in
+    let same : low / 2 ^ (bit + 1) ≡ high / 2 ^ (bit + 1) = search (rules, same_from_xor, xor_shr) in
+    let some : 1 ≤ bit_xor low high / 2 ^ bit = le-div 1 (bit_xor low high) (2 ^ bit) (pow_pos bit) (omega arith) in
+    let differ : low / 2 ^ bit ≢ high / 2 ^ bit = grind (arith, common_steps, xor_shr) in
+    let order : low / 2 ^ bit ≤ high / 2 ^ bit = shr_mono bit (omega arith) in
+    let at : high / 2 ^ bit * 2 ^ bit / 2 ^ bit ≡ high / 2 ^ bit = shl-shr (high / 2 ^ bit) bit in
+    let high_same : high / 2 ^ (bit + 1) ≡ high / 2 ^ bit * 2 ^ bit / 2 ^ (bit + 1) = search rules in
+    search (rules, div-mul-le_self)
+
+-- The code uses `leading_zeros` to compute the position of the highest bit in which `low` and `high` differ. The code
+-- then uses two shifts to clear the lower bits of `high`.
+module _ (low high : ℕ) (before : low < high) (fits : high < 2 ^ 64) where
+  top : (bit : ℕ) × (count_leading_zeros 64 (bit_xor low high) + suc bit ≡ 64) × (2 ^ bit ≤ bit_xor low high)
+      × (bit_xor low high < 2 ^ suc bit)
+  top = leading_top 64 (bit_xor low high) (search (rules, same_from_xor)) (xor_lt 64 low high (omega arith) fits)
+
+  pub leading_few : count_leading_zeros 64 (bit_xor low high) ≤ 63
+  leading_few = let h = top.1 in omega arith
+
+  pub leading_place : (bit : ℕ) × IsCutPoint bit low high
+      (high / 2 ^ (63 - count_leading_zeros 64 (bit_xor low high)) * 2
+      ^ (63 - count_leading_zeros 64 (bit_xor low high)) % 2 ^ 64)
+  leading_place =
+      let bit = top.0 in
+      let is : 63 - count_leading_zeros 64 (bit_xor low high) ≡ bit = let h = top.1 in omega arith in
+      let cleared : high / 2 ^ bit * 2 ^ bit % 2 ^ 64 ≡ high / 2 ^ bit * 2 ^ bit = search rules in
+      (bit, rw (is, cleared) (IsCutPoint-highest low high bit before top.2 (rw add-one top.3)))
+
+-- `HasEnds` is about a list of pairs and the numbers `low` and `high`. Each pair (x, y) is represented by the number
+-- x * 2^32 + y (`pair_value`). `HasEnds` holds if both of the following conditions hold. The first condition is that
+-- the list contains a pair that is at most `low` and a pair that is at least `high`. The second condition is about any
+-- two numbers l and h such that l is at most `low` and h is at least `high`. Among all numbers that are greater than l
+-- and at most h, let c be the number that is divisible by the highest power of two, 2^bit (`IsCutPoint`). Then each
+-- pair of the list must have the same bits as c at all bit positions above `bit` (`IsAlike`).
+pub record HasEnds (list : List (ℕ × ℕ)) (low high : ℕ) : Type 0 where
+  pub before : (z : ℕ × ℕ) × Contains list z × (pair_value z ≤ low)
+  pub after : (z : ℕ × ℕ) × Contains list z × (high ≤ pair_value z)
+  pub alike : (bit l h c : ℕ) → IsCutPoint bit l h c → l ≤ low → high ≤ h → IsAlike bit list c
+
+-- Each pair (x, y) is represented by the number x * 2^32 + y (`pair_value`). Suppose that a list is not empty and is in
+-- strictly ascending order, and that the second component of each of its pairs is less than 2^32 (`Fit`). Let `low` be
+-- the number for the first pair of the list, and let `high` be the number for its last pair. Then the number for each
+-- pair of the list is at least `low` and at most `high`, and `HasEnds` holds for the list and the numbers `low` and
+-- `high`. If the list has more than one pair, `low` is less than `high`.
+module _ (list : List (ℕ × ℕ)) (ascending : IsStrictlySortedBy pair_cmp list) (fit : Fit list) (some : 0 < length list)
+    {low high : ℕ} (low_is : low ≡ pair_value (get_or list 0 (0, 0)))
+    (high_is : high ≡ pair_value (get_or list (length list - 1) (0, 0))) where
+  has_first : Contains list (get_or list 0 (0, 0))
+  has_first = Contains-get_or list 0 (0, 0) some
+
+  has_last : Contains list (get_or list (length list - 1) (0, 0))
+  has_last = Contains-get_or list (length list - 1) (0, 0) (omega arith)
+
+  keys_between : (z : ℕ × ℕ) → Contains list z → (low ≤ pair_value z) × (pair_value z ≤ high)
+  keys_between z (k, low', is) =
+      let keys = ascending_keys list ascending fit in
+      let at = get_or_default list k (0, 0) z in
+      grind (arith, at, keys 0 k (0, 0), keys k (length list - 1) (0, 0), is, low_is, high_is, low')
+
+  pub first_before_last : 1 < length list → low < high
+  first_before_last many =
+      let key =
+      key_from_less (get_or list 0 (0, 0)) (get_or list (length list - 1) (0, 0)) (fit _ has_first) (fit _ has_last)
+      (Less-from_sorted pair_cmp list 0 (length list - 1) (0, 0) ascending (omega arith) (omega arith)) in
+      omega arith
+
+  pub ends_pairs : HasEnds list low high
+  ends_pairs = record {
+    before = (get_or list 0 (0, 0), has_first, omega (arith, low_is));
+    after = (get_or list (length list - 1) (0, 0), has_last, omega (arith, high_is));
+    alike = λ bit l h c place under over. alike_within list bit l h c place (λ z d.
+        let between = keys_between z d in (omega arith, omega arith));
+  }
+
+-- Each pair (x, y) is represented by the number x * 2^32 + y (`pair_value`). The condition `HasEnds` relates a list of
+-- pairs to two numbers. Suppose that `HasEnds` holds for a list and the numbers `low` and `high`. Among all numbers
+-- that are greater than `low` and at most `high`, let c be the number that is divisible by the highest power of two
+-- (`IsCutPoint`). Then c is the split point of the list, which is the number at which the list is divided into two
+-- halves (`IsCut`).
+pub IsCut-ends : {list : List (ℕ × ℕ)} {low high bit c : ℕ} → HasEnds list low high → IsCutPoint bit low high c →
+    IsCut list c
+IsCut-ends {list} {low} {high} {bit} {c} ends place =
+    search (rules, ends.alike bit low high c place, ends.before, ends.after, place.after, place.within)
+
+-- The condition `HasEnds` relates a list of pairs to two numbers. Suppose that `HasEnds` holds for the list xs with the
+-- numbers `low` and `high`, and for the list ys with the numbers `low'` and `high'`. Let m be the lesser of `low` and
+-- `low'`, and let n be the greater of `high` and `high'`. Then `HasEnds` holds for the union of xs and ys with the
+-- numbers m and n.
+pub HasEnds-union : {list xs ys : List (ℕ × ℕ)} {low high low' high' : ℕ} → HasEnds xs low high
+    → HasEnds ys low' high' → Unites list xs ys → HasEnds list (min low low') (max high high')
+HasEnds-union {list} {xs} {ys} {low} {high} {low'} {high'} first second unites = record {
+  before =
+      search (rules, cases_lt low low', first.before, second.before, unites first.before.0, unites second.before.0);
+  after = search (rules, cases_lt high high', first.after, second.after, unites first.after.0, unites second.after.0);
+  alike = λ bit l h c place under over.
+      let one = first.alike bit l h c place (omega arith) (omega arith) in
+      let two = second.alike bit l h c place (omega arith) (omega arith) in
+      record { multiple = place.multiple; alike = λ z d. ⊎_elim (one.alike z) (two.alike z) ((unites z).0 d) };
+}
+
+-- Suppose that a list has more than 64 pairs (`MOST_WHOLE`), and that `h.cut` is the number at which the list has to be
+-- divided into two halves (`IsCut`). Suppose also that this number divides the list into the two interned lists with
+-- the IDs `h.below` and `h.above`. Then these two interned lists are the halves of the list (`AreHalvesIn`).
+pub AreHalvesIn-parts : {lists : List (List (ℕ × ℕ))} {h : Halves} {list : List (ℕ × ℕ)} → h.below < length lists
+    → h.above < length lists → IsParted list h.cut (list_at lists h.below) (list_at lists h.above) → IsCut list h.cut
+    → MOST_WHOLE < length list → AreHalvesIn lists h
+AreHalvesIn-parts {lists} {h} low high parted cut long = search (rules, length-append)
+
+-- Suppose that g contains the IDs of the two halves of a list, and the number at which the list is divided into these
+-- halves. Suppose that h contains the IDs of the halves of an equal list, and the number at which this list is divided.
+-- Suppose also that no two stored lists are equal. Then g and h are equal.
+module _ (lists : List (List (ℕ × ℕ))) (stored : AreStored lists) (different : AreDifferent lists) where
+  pub halves_same : (g h : Halves) → AreHalvesIn lists g → AreHalvesIn lists h
+      → list_at lists g.below ++ list_at lists g.above ≡ list_at lists h.below ++ list_at lists h.above → g ≡ h
+  halves_same g h in_g in_h e =
+      let list = list_at lists h.below ++ list_at lists h.above in
+      let cut : g.cut ≡ h.cut = cut_unique list g.cut h.cut (rw e at in_g.halves.at_cut) in_h.halves.at_cut in
+      let one : IsParted list g.cut (list_at lists g.below) (list_at lists g.above) = search rules in
+      let two : IsParted list g.cut (list_at lists h.below) (list_at lists h.above) = search rules in
+      let ascending = λ (k : ℕ) (low : k < length lists). stored.ascending k [] low in
+      let below = different g.below h.below in_g.below in_h.below (ascending_unique _ _ (ascending _ in_g.below)
+      (ascending _ in_h.below) (λ z. grind (arith, below_has one z, below_has two z))) in
+      let above = different g.above h.above in_g.above in_h.above (ascending_unique _ _ (ascending _ in_g.above)
+      (ascending _ in_h.above) (λ z. grind (arith, above_has one z, above_has two z))) in
+      (λ i. record { below = below i; above = above i; cut = cut i })

@@ -1,8 +1,7 @@
 -- Some of these lemmas are about the union of several lists, which is computed list by list. Other lemmas show that a
 -- list which is the union of two stored lists is still their union when more lists are stored.
 use Rattle.std.proofs.Common.{◌⊎◌, ◌↔◌, ℕ, ◌+◌, ◌<◌, List, length, refl, arith, rules}
-use Rattle.signatures.specs.Lists.{list_at, Grow}
-use Rattle.signatures.specs.Unions.{Unites, IsUnion, AreUnions}
+use Rattle.signatures.specs.{Lists.list_at, Lists.Grow, Unions.Unites, Unions.IsUnion, Unions.AreUnions}
 
 pub or_swap : {A B C : Type 0} → A ↔ (B ⊎ C) → A ↔ (C ⊎ B)
 or_swap f = search rules

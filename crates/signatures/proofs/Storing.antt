@@ -1,23 +1,66 @@
 -- A node stores one list: a short list as a range of pairs, and a long list as the IDs of the two halves of the list.
 -- Some lemmas state which list is stored in a node. Other lemmas show that all lists are still stored correctly
--- (`AreNodes`) after a list has been appended.
-use Rattle.std.proofs.Common.{rules, ◌≡◌, ◌∙◌, ℕ, zero, suc, ◌+◌, ◌<◌, ◌≤◌, List, [], ◌∷◌, ◌++◌, length, take, ap, sym}
-use Rattle.std.proofs.Common.{subst, refl, arith, All, slice_range, length-append, append-nil}
+-- (`AreNodes`) after a list has been appended. The first lemmas are about the buffers that contain the ranges of pairs.
+-- The last lemmas are about the search for a list by its tag, which is a hash of 32 bits: the code compares the list
+-- with each stored list that has the same tag.
+use Rattle.std.proofs.Common.{rules, ◌≡◌, ℕ, ◌+◌, ◌≤◌, List, [], ◌∷◌, ◌++◌, length, refl, arith, All, ◌-◌, drop, map}
+use Rattle.std.proofs.Common.{slice_range, length-drop, length-take, drop_at, take_all, ◌∙◌, zero, suc, ◌<◌, take, ap}
+use Rattle.std.proofs.Common.{sym, subst, length-append, append-nil}
+use Rattle.std.proofs.lemmas.List.{map-append, drop-append-le, take-append-le, length_push, get_or_append_left}
+use Rattle.std.proofs.lemmas.List.Elements.{All-tail, All-cons, All-nil, All-push}
+use Rattle.std.proofs.lemmas.{List.get_or_push, List.length-map, Bool.cases_lt}
+use Rattle.signatures.specs.{declared.extensions.Slot.Slot, Extensions.extension_in, Extensions.all_extensions}
+use Rattle.signatures.specs.{Extensions.AreSlots, declared.nodes.Halves.Halves, declared.nodes.Node.Node}
+use Rattle.signatures.specs.{declared.nodes.Shape.Shape, declared.nodes.TheConstants.MOST_WHOLE}
+use Rattle.signatures.specs.{declared.nodes.TheConstants.MOST_LISTS, declared.nodes.Node.TheVariants.Whole}
+use Rattle.signatures.specs.{declared.nodes.Node.TheVariants.Halved, declared.nodes.Shape.TheVariants.Whole as Pairs}
+use Rattle.signatures.specs.{declared.nodes.Shape.TheVariants.Halved as Cut, Lists.pair_cmp, Lists.list_at, Lists.Grow}
+use Rattle.signatures.specs.{Cuts.Fit, Nodes.IsHalved, Nodes.node_at, Nodes.StoresNode, Nodes.list_of_node}
+use Rattle.signatures.specs.{Nodes.list_of_shape, Nodes.lists_to, Nodes.lists_of_nodes, Nodes.Suits, Nodes.AreStored}
+use Rattle.signatures.specs.{Nodes.AreNodes, Hashed.tag_of}
 use Rattle.std.specs.List.Sorted.{IsStrictlySortedBy}
-use Rattle.std.proofs.lemmas.Bool.{cases_lt}
-use Rattle.std.proofs.lemmas.List.{length_push, get_or_append_left, get_or_push}
-use Rattle.std.proofs.lemmas.List.Elements.{All-cons, All-nil, All-push}
-use Rattle.signatures.specs.declared.nodes.{Halves.Halves, Node.Node, Shape.Shape}
-use Rattle.signatures.specs.declared.nodes.TheConstants.{MOST_WHOLE, MOST_LISTS}
-use Rattle.signatures.specs.declared.nodes.Node.TheVariants.{Whole, Halved}
-use Rattle.signatures.specs.declared.nodes.Shape.TheVariants.{Whole as Pairs, Halved as Cut}
-use Rattle.signatures.proofs.Ascending.{ascending_none}
-use Rattle.signatures.proofs.Keys.{halves_ascending, halves_has}
-use Rattle.signatures.proofs.Keeping.{slice_range-append, slice_range-last, length-part}
-use Rattle.signatures.specs.Lists.{pair_cmp, list_at, Grow}
-use Rattle.signatures.specs.Cuts.{Fit}
-use Rattle.signatures.specs.Nodes.{IsHalved, node_at, StoresNode, list_of_node, list_of_shape, lists_to, lists_of_nodes}
-use Rattle.signatures.specs.Nodes.{Suits, AreStored, AreNodes}
+use Rattle.signatures.proofs.{Ascending.ascending_none, Cuts.halves_ascending, Cuts.halves_has}
+use Rattle.buckets.specs.Buckets.{tag_at, IsLast}
+use Rattle.std.proofs.Math.ListN as plain
+
+-- If pairs are appended to a buffer, each range of indices that lies within the old buffer still contains the same
+-- pairs. The range after the old buffer contains the appended pairs.
+pub slice_range-append : (pairs more : List (ℕ × ℕ)) (start end : ℕ) → start ≤ end → end ≤ length pairs →
+    slice_range (pairs ++ more) start end ≡ slice_range pairs start end
+slice_range-append pairs more start end h k = search (rules, drop-append-le, take-append-le, length-drop)
+
+pub slice_range-last : (pairs more : List (ℕ × ℕ)) (end : ℕ) → end ≡ length pairs + length more →
+    slice_range (pairs ++ more) (length pairs) end ≡ more
+slice_range-last pairs more end e = search (rules, drop_at, take_all)
+
+-- If two functions have the same value at each element of a list, mapping the list with one function gives the same
+-- result as mapping it with the other function.
+pub map_same : {X Y : Type 0} (f g : X → Y) (xs : List X) → All (λ x. f x ≡ g x) xs → map f xs ≡ map g xs
+map_same f g [] h = refl
+map_same f g (x ∷ xs) h = rw (h 0 x (omega arith), map_same f g xs (All-tail (λ x. f x ≡ g x) x xs h))
+
+pub length-part : (pairs : List (ℕ × ℕ)) (start count : ℕ) → length (slice_range pairs start (start + count)) ≤ count
+length-part pairs start count = omega (arith, length-take (start + count - start) (drop start pairs))
+
+-- A slot stores a list in two parts: the ID of its base, which is a list of pairs that several lists can share, and the
+-- range of a buffer in which all other pairs of the list are stored. If pairs are appended to the buffer, the list in
+-- each slot stays the same.
+module _ (pairs more : List (ℕ × ℕ)) where
+  pub extensions-more : (slots : List Slot) → All (λ x. x.start + x.count ≤ length pairs) slots →
+      all_extensions (pairs ++ more) slots ≡ all_extensions pairs slots
+  extensions-more slots h =
+      map_same (extension_in (pairs ++ more)) (extension_in pairs) slots (λ k d low.
+      search (rules, slice_range-append, h))
+
+-- A slot stores a list in two parts: the ID of its base, which is a list of pairs that several lists can share, and the
+-- range of a buffer in which all other pairs of the list are stored. Suppose that pairs are appended to the buffer, and
+-- that a slot for these pairs is appended to the slots. Then the list of the new slot is the last stored list, and all
+-- other stored lists stay the same.
+module _ (pairs list : List (ℕ × ℕ)) (slots : List Slot) (new : Slot) (are : AreSlots pairs slots)
+    (start : new.start ≡ length pairs) (count : new.count ≡ length list) where
+  pub extensions-push : all_extensions (pairs ++ list) (slots ++ new ∷ [])
+      ≡ all_extensions pairs slots ++ (new.base, list) ∷ []
+  extensions-push = search (rules, map-append, extensions-more, slice_range-last)
 
 pub All-only : {X : Type 0} (P : X → Type 0) (x : X) → P x → All P (x ∷ [])
 All-only P x p = All-cons P x [] p (All-nil P)
@@ -194,3 +237,29 @@ module _ (pairs new : List (ℕ × ℕ)) (nodes : List Node) (node : Node) (are 
       (λ z d. grind (arith, has z, fit _ suits.below z, fit _ suits.above z))
       (subst (λ n. IsHalved (lists ++ (list_at lists h.below ++ list_at lists h.above) ∷ []) n h)
       (length-lists pairs nodes) (search (rules, list-old, list-new)))))
+
+-- Suppose that `tags` contains the tag (a hash of 32 bits) of each list. Then the element of `tags` at the index k is
+-- the tag of the list with the ID k.
+pub tag_is : (lists : List (List (ℕ × ℕ))) {tags : List ℕ} → tags ≡ map tag_of lists → (k : ℕ) →
+    tag_at tags k ≡ tag_of (list_at lists k)
+tag_is lists e k = ap (λ tags. tag_at tags k) e ∙ plain.get_or-map tag_of lists k []
+
+-- `IsReached` is about a search for `list`. The search goes through the stored lists that have the same tag (a hash of
+-- 32 bits) as `list`, in descending order of their IDs. `IsReached` holds for the ID r if all three of the following
+-- conditions hold. First, if any lists are stored, r is the ID of a stored list. Second, no stored list with an ID
+-- greater than r is equal to `list`. Third, r is 0, or the list with the ID r has the same tag as `list`.
+pub record IsReached (lists : List (List (ℕ × ℕ))) (list : List (ℕ × ℕ)) (r : ℕ) : Type 0 where
+  pub below : 0 < length lists → r < length lists
+  pub above : (q : ℕ) → r < q → q < length lists → list_at lists q ≡ list → ⊥
+  pub tagged : 0 < r → tag_of (list_at lists r) ≡ tag_of list
+
+-- A search for a list begins at the greatest ID of a list with the same tag (a hash of 32 bits), and goes on to the
+-- smaller IDs of lists with this tag. If the search has come to the ID r, no stored list with a greater ID is equal to
+-- the list (`IsReached`).
+module _ (lists : List (List (ℕ × ℕ))) {tags : List ℕ} (list : List (ℕ × ℕ)) (are : tags ≡ map tag_of lists) where
+  pub IsReached-last : {r : ℕ} → IsLast tags (tag_of list) (length tags) r → IsReached lists list r
+  IsReached-last {r} last = grind (arith, tag_is lists are, ap length are, length-map lists tag_of)
+
+  pub IsReached-before : {r q : ℕ} → 0 < r → (list_at lists r ≡ list → ⊥) → IsReached lists list r →
+      IsLast tags (tag_at tags r) r q → IsReached lists list q
+  IsReached-before {r} {q} some other is last = grind (arith, tag_is lists are)

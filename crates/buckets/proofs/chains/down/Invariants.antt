@@ -1,6 +1,5 @@
 use Rattle.std.proofs.Common.{◌≡◌, ℕ, ◌+◌, ◌<◌}
-use Rattle.buckets.specs.Buckets.{tag_at}
-use Rattle.buckets.specs.Chains.{tags_of, IsInChain}
+use Rattle.buckets.specs.{Buckets.tag_at, Chains.tags_of, Chains.IsInChain}
 use Rattle.buckets.proofs.chains.down.Given as goal
 
 abbrev pub invariant-loop-r : goal.invariant-loop-r

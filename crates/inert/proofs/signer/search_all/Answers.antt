@@ -2,8 +2,9 @@ use Rattle.std.proofs.Common.{rules, ◌≡◌, ◌∙◌, ℕ, ◌-◌, ◌<◌
 use Rattle.std.proofs.lemmas.List.Sums.{length-filter, count_by-le-length}
 use Rattle.std.proofs.lemmas.{Bool.cases_lt, Bool.false≢true, Grind.common_steps}
 use Rattle.inert.specs.Search.{VisitState, stage_at, Completed, KeepsVisited}
-use Rattle.inert.proofs.Invariant.{stays_on, goes_on}
-use Rattle.inert.proofs.{Resting.finished, signer.search_all.Given.Over, signer.search_all.Goals.After-is_unvisited}
+use Rattle.inert.proofs.signer.search_all.Given.{Over}
+use Rattle.inert.proofs.signer.search_all.Goals.{After-is_unvisited}
+use Rattle.inert.proofs.{Invariant.stays_on, Invariant.goes_on, Resting.finished}
 use Rattle.inert.proofs.signer.search_all.Goals as goal
 
 -- The loop goes through the active states (the states that the round processes), from the last to the first. Let i be

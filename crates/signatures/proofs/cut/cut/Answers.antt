@@ -1,4 +1,4 @@
-use Rattle.signatures.proofs.Places.{leading_few, leading_place}
+use Rattle.signatures.proofs.Cuts.{leading_few, leading_place}
 use Rattle.signatures.proofs.cut.cut.Goals as goal
 
 pub overflow_sub-bit : goal.overflow_sub-bit

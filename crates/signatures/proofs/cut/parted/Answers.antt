@@ -1,7 +1,7 @@
 use Rattle.std.proofs.Common.{ltb, rules}
 use Rattle.std.proofs.lemmas.List.Sorted.{IsPartitionPoint-from_clause, IsPartitionedBy-ltb}
 use Rattle.signatures.specs.Cuts.{pair_value}
-use Rattle.signatures.proofs.Keys.{ascending_keys, parted_is}
+use Rattle.signatures.proofs.Cuts.{ascending_keys, parted_is}
 use Rattle.signatures.proofs.cut.parted.Goals as goal
 
 pub returns : goal.returns

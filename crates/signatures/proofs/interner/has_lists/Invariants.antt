@@ -1,6 +1,5 @@
 use Rattle.std.proofs.Common.{ℕ, ◌<◌, slice_index}
-use Rattle.signatures.specs.Lists.{list_at}
-use Rattle.signatures.specs.Extensions.{Includes}
+use Rattle.signatures.specs.{Lists.list_at, Extensions.Includes}
 use Rattle.signatures.proofs.interner.has_lists.Given as goal
 
 abbrev pub invariant-loop-j : goal.invariant-loop-j

@@ -1,11 +1,9 @@
 use Rattle.std.proofs.Common.{rules, ◌≡◌, length, arith, Some}
 use Rattle.std.specs.List.Sorted.{IsStrictlySortedBy}
 use Rattle.std.proofs.lemmas.Bool.{both_ways}
-use Rattle.signatures.specs.Lists.{pair_cmp, merged}
-use Rattle.signatures.specs.Extensions.{parts_of}
-use Rattle.signatures.proofs.Joining.{or_swap}
-use Rattle.signatures.proofs.Collecting.{extra_skip, extra_more}
-use Rattle.signatures.proofs.Merging.{merged_has, merged_ascending}
+use Rattle.signatures.specs.{Lists.pair_cmp, Lists.merged, Extensions.parts_of}
+use Rattle.signatures.proofs.Extensions.{extra_skip, extra_more}
+use Rattle.signatures.proofs.{Joining.or_swap, Ascending.merged_has, Ascending.merged_ascending}
 use Rattle.signatures.proofs.list_union.merge.Goals as goal
 
 pub loop-k-preserved-then-not-is_own : goal.loop-k-preserved-then-not-is_own

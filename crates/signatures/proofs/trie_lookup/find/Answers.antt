@@ -1,7 +1,7 @@
 use Rattle.std.proofs.Common.{rules, arith}
 use Rattle.std.proofs.lemmas.Bool.{both_ways}
 use Rattle.signatures.specs.Nodes.{list_of_shape}
-use Rattle.signatures.proofs.Hashing.{IsReached-last, IsReached-before}
+use Rattle.signatures.proofs.Storing.{IsReached-last, IsReached-before}
 use Rattle.signatures.proofs.trie_lookup.find.Goals as goal
 
 pub loop-r-init : goal.loop-r-init

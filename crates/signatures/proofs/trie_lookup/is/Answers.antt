@@ -1,5 +1,5 @@
 use Rattle.std.proofs.Common.{rules}
-use Rattle.signatures.proofs.Halving.{halves_same}
+use Rattle.signatures.proofs.Cuts.{halves_same}
 use Rattle.signatures.proofs.trie_lookup.is.Goals as goal
 
 pub returns-in-Halved-Halved : goal.returns-in-Halved-Halved

@@ -1,9 +1,9 @@
 use Rattle.std.proofs.Common.{rules, ◌∙◌, ℕ, arith}
 use Rattle.signatures.specs.Cuts.{IsCut}
-use Rattle.signatures.proofs.Keys.{parts_both, parts_shorter}
-use Rattle.signatures.proofs.Halving.{first_before_last, ends_pairs, IsCut-ends, AreHalvesIn-parts}
-use Rattle.signatures.proofs.unions.+list_of.Goals as goal
+use Rattle.signatures.proofs.Cuts.{parts_both, parts_shorter, first_before_last, ends_pairs, IsCut-ends}
+use Rattle.signatures.proofs.Cuts.{AreHalvesIn-parts}
 use Rattle.signatures.proofs.unions.+list_of.Goals.{After-parted}
+use Rattle.signatures.proofs.unions.+list_of.Goals as goal
 
 pub cut-cut-requires : goal.cut-cut-requires
 cut-cut-requires t c =

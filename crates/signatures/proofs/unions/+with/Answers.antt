@@ -1,13 +1,10 @@
 use Rattle.std.proofs.Common.{rules, ◌≡◌, ◌∙◌, ℕ, [], arith}
 use Rattle.std.proofs.lemmas.Result.{IfOk-weaker}
 use Rattle.signatures.specs.Lists.{list_at, merged}
-use Rattle.signatures.proofs.Joining.{Grow-same}
-use Rattle.signatures.proofs.Keys.{parts_both}
-use Rattle.signatures.proofs.Uniting.{AreUnited, AreUnited-parts, parted_grown, parts_fewer, halved_long, unites_merged}
-use Rattle.signatures.proofs.Merging.{merged_ascending}
-use Rattle.signatures.proofs.Extending.{merged_fit}
-use Rattle.signatures.proofs.unions.+with.Goals as goal
+use Rattle.signatures.proofs.Unions.{AreUnited, AreUnited-parts, parted_grown, parts_fewer, halved_long, unites_merged}
+use Rattle.signatures.proofs.{Unions.merged_fit, Joining.Grow-same, Cuts.parts_both, Ascending.merged_ascending}
 use Rattle.signatures.proofs.unions.+with.Goals.{In_ok-above-in-Halved, After-deref}
+use Rattle.signatures.proofs.unions.+with.Goals as goal
 
 pub with-requires : goal.with-requires
 with-requires t c =

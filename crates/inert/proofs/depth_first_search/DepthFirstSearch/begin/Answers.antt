@@ -4,8 +4,9 @@ use Rattle.lts.proofs.CallerLemmas.{price_none, price_first, price_one_more}
 use Rattle.lts.specs.Meter.{Costs}
 use Rattle.inert.specs.{Steps.remaining, Search.Search, Search.Completed, Search.unread}
 use Rattle.inert.proofs.Beginning.{begins, takes_framed, takes_bare, begun_ends}
+use Rattle.inert.proofs.Resting.{within}
+use Rattle.inert.proofs.depth_first_search.DepthFirstSearch.begin.Goals.{After-step-step}
 use Rattle.inert.proofs.depth_first_search.DepthFirstSearch.begin.Given.{Over}
-use Rattle.inert.proofs.{Resting.within, depth_first_search.DepthFirstSearch.begin.Goals.After-step-step}
 use Rattle.inert.proofs.depth_first_search.DepthFirstSearch.begin.Goals as goal
 
 pub loop-k-init : goal.loop-k-init

@@ -2,8 +2,9 @@ use Rattle.std.proofs.Common.{rules, ◌≡◌, ◌≢◌, ◌∙◌, length, ap
 use Rattle.std.proofs.lemmas.{Grind.common_steps, List.get_or_read}
 use Rattle.inert.specs.Search.{Search, AreInternedItems}
 use Rattle.inert.proofs.depth_first_search.DepthFirstSearch.go_back.Given.{Over}
-use Rattle.inert.proofs.{Invariant.here, Invariant.last, Invariant.last_low, Back.popped, Back.popped_size}
-use Rattle.inert.proofs.{Back.popped_on, Back.closed, depth_first_search.DepthFirstSearch.go_back.Goals.After-pop}
+use Rattle.inert.proofs.Invariant.{here, last, last_low}
+use Rattle.inert.proofs.Back.{popped, popped_size, popped_on, closed}
+use Rattle.inert.proofs.depth_first_search.DepthFirstSearch.go_back.Goals.{After-pop}
 use Rattle.inert.proofs.depth_first_search.DepthFirstSearch.go_back.Goals as goal
 
 -- A component is a strongly connected set of states on the stack. The root of a component is its first state on the

@@ -1,5 +1,5 @@
-use Rattle.std.proofs.lemmas.Result.{IfOk-weaker}
 use Rattle.std.proofs.Common.{◌≡◌, ◌↔◌, ℕ, ◌<◌, length, slice_index, subst}
+use Rattle.std.proofs.lemmas.Result.{IfOk-weaker}
 use Rattle.refine.proofs.Filling.{split_alike}
 use Rattle.refine.proofs.all_signatures.Signatures.split.Goals as goal
 

@@ -1,13 +1,11 @@
-use Rattle.std.proofs.Common.{rules, ◌∙◌, ◌+◌, ◌≤◌, ◌<◌, length, slice_index, ap, sym, arith}
+use Rattle.std.proofs.Common.{rules, ◌∙◌, ◌+◌, ◌≤◌, ◌<◌, length, slice_index, ap, sym, arith, get_or-take, below_more}
 use Rattle.std.proofs.Transfers.{starts_with_length}
-use Rattle.std.proofs.lemmas.List.{get_or_read, get_or-take}
-use borrow.Author.Count.{below_more}
-use Rattle.lts.specs.Lts.{IsRow}
-use Rattle.lts.specs.Visited.{price}
+use Rattle.std.proofs.lemmas.List.{get_or_read}
+use Rattle.lts.specs.{Lts.IsRow, Visited.price}
 use Rattle.refine.proofs.Searching.{went}
 use Rattle.refine.proofs.search.Search.read.Given.{Over}
-use Rattle.refine.proofs.search.Search.read.Goals as goal
 use Rattle.refine.proofs.search.Search.read.Goals.{After-row-start}
+use Rattle.refine.proofs.search.Search.read.Goals as goal
 
 -- The place of a transition is its index in the list of all transitions. Let t be the found state at the index i in the
 -- list of found states. The range that the call of `row` returns consists of exactly the places of the transitions

@@ -1,5 +1,4 @@
-use Rattle.std.proofs.Common.{rules, ◌∙◌, [], sym}
-use Rattle.std.proofs.lemmas.List.{append-nil}
+use Rattle.std.proofs.Common.{rules, ◌∙◌, [], sym, append-nil}
 use Rattle.refine_core.proofs.CallerLemmas.{row_signature}
 use Rattle.refine.proofs.sense.StrongSense.signature.Goals as goal
 

@@ -1,5 +1,5 @@
 use Rattle.std.proofs.Common.{rules}
-use Rattle.signatures.proofs.Keeping.{extensions-more, extensions-push}
+use Rattle.signatures.proofs.Storing.{extensions-more, extensions-push}
 use Rattle.signatures.proofs.extensions.Extensions.push.Goals as goal
 
 pub returns-in_err-push-clause-err : goal.returns-in_err-push-clause-err

@@ -1,13 +1,11 @@
 use Rattle.std.proofs.Common.{rules, ◌≡◌, ◌∙◌, ◌<◌, [], sym, arith}
-use Rattle.std.proofs.lemmas.Bool.{both_ways}
-use Rattle.std.proofs.lemmas.List.{get_or-map, length-map}
+use Rattle.std.proofs.lemmas.{Bool.both_ways, List.get_or-map, List.length-map}
 use Rattle.signatures.specs.Lists.{list_at}
 use Rattle.signatures.specs.Extensions.{parts_of, extended, extended_lists, IsExtension}
-use Rattle.signatures.proofs.Joining.{Grow-twice}
-use Rattle.signatures.proofs.Hashing.{IsReached-last, IsReached-before}
-use Rattle.signatures.proofs.Numbering.{tags_size, extended-grow, IsExtension-grow}
-use Rattle.signatures.proofs.table.Table.find.Goals as goal
+use Rattle.signatures.proofs.Extensions.{tags_size, extended-grow, IsExtension-grow}
+use Rattle.signatures.proofs.{Joining.Grow-twice, Storing.IsReached-last, Storing.IsReached-before}
 use Rattle.signatures.proofs.table.Table.find.Goals.{After-of}
+use Rattle.signatures.proofs.table.Table.find.Goals as goal
 
 pub loop-r-init : goal.loop-r-init
 loop-r-init c = search (rules, tags_size, IsReached-last)

@@ -1,7 +1,6 @@
 use Rattle.std.proofs.Common.{◌<◌, length}
-use Rattle.signatures.specs.Lists.{Grow}
-use Rattle.signatures.specs.Extensions.{parts_of, extended, extended_lists}
-use Rattle.signatures.proofs.Hashing.{IsReached}
+use Rattle.signatures.specs.{Lists.Grow, Extensions.parts_of, Extensions.extended, Extensions.extended_lists}
+use Rattle.signatures.proofs.Storing.{IsReached}
 use Rattle.signatures.proofs.table.Table.find.Given as goal
 
 abbrev pub invariant-loop-r : goal.invariant-loop-r

@@ -1,14 +1,12 @@
 use Rattle.std.proofs.Common.{rules, ◌≡◌, ◌∙◌, ◌++◌, ◌∷◌, [], ap, refl}
-use Rattle.signatures.specs.Hashed.{mixed}
-use Rattle.signatures.specs.Extensions.{parts_of, AreExtended}
-use Rattle.signatures.proofs.Numbering.{TableGrows-from, lists-grow, AreExtended-push, extended_some}
-use Rattle.signatures.proofs.Joining.{Grow-same}
-use Rattle.signatures.proofs.Storing.{Grow-push}
+use Rattle.signatures.specs.{Hashed.mixed, Extensions.parts_of, Extensions.AreExtended}
+use Rattle.signatures.proofs.Extensions.{TableGrows-from, lists-grow, AreExtended-push, extended_some}
+use Rattle.signatures.proofs.{Joining.Grow-same, Storing.Grow-push}
 use Rattle.std.proofs.lemmas.List.{map-append}
-use Rattle.signatures.proofs.table.Table.intern.Goals as goal
 use Rattle.signatures.proofs.table.Table.intern.Goals.{In_ok-id-2}
 use Rattle.signatures.proofs.table.Table.intern.Goals.{else-list-eq-EMPTY-via-then-list-eq-EMPTY+else-is_empty}
 use Rattle.signatures.proofs.table.Table.intern.Goals.{else-list-eq-EMPTY-via-else-list-eq-EMPTY}
+use Rattle.signatures.proofs.table.Table.intern.Goals as goal
 
 pub returns-in_err-id-clause-keeps : goal.returns-in_err-id-clause-keeps
 returns-in_err-id-clause-keeps c =

@@ -1,7 +1,6 @@
 use Rattle.std.proofs.Common.{arith}
 use Rattle.std.proofs.lemmas.Grind.{common_steps}
-use Rattle.signatures.proofs.Joining.{AreUnions-grow}
-use Rattle.signatures.proofs.Storing.{Grow-push}
+use Rattle.signatures.proofs.{Joining.AreUnions-grow, Storing.Grow-push}
 use Rattle.signatures.proofs.trie.Trie.add_list.Goals as goal
 
 pub invariant_of-self-in_err-id : goal.invariant_of-self-in_err-id

@@ -1,12 +1,10 @@
 use Rattle.std.proofs.Common.{rules, ℕ, arith}
 use Rattle.std.proofs.lemmas.Result.{IfOk-weaker}
-use Rattle.signatures.specs.Lists.{list_at, Grow}
-use Rattle.signatures.specs.Unions.{IsUnion}
-use Rattle.signatures.proofs.Uniting.{AreUnited, AreUnited-parts, parted_grown, parts_fewer, halved_long}
+use Rattle.signatures.specs.{Lists.list_at, Lists.Grow, Unions.IsUnion}
+use Rattle.signatures.proofs.Unions.{AreUnited, AreUnited-parts, parted_grown, parts_fewer, halved_long, IsUnion-swap}
 use Rattle.signatures.proofs.Joining.{Grow-twice, IsUnion-grown}
-use Rattle.signatures.proofs.UnionCache.{IsUnion-swap}
-use Rattle.signatures.proofs.unions.Bases.+both.Goals as goal
 use Rattle.signatures.proofs.unions.Bases.+both.Goals.{In_ok-above, In_ok-i}
+use Rattle.signatures.proofs.unions.Bases.+both.Goals as goal
 
 -- If the list with the ID `j` or the list with the ID `k` is stored as a range of pairs, the call of `with_list`
 -- computes the union of the two lists.

@@ -1,10 +1,9 @@
 use Rattle.std.proofs.Common.{rules, ◌≡◌, [], sym}
 use Rattle.std.proofs.lemmas.Result.{IfOk-weaker}
 use Rattle.signatures.specs.Lists.{list_at}
-use Rattle.signatures.proofs.Joining.{IsUnion-grown}
-use Rattle.signatures.proofs.UnionCache.{if_both}
-use Rattle.signatures.proofs.unions.Bases.with_list.Goals as goal
+use Rattle.signatures.proofs.{Joining.IsUnion-grown, Unions.if_both}
 use Rattle.signatures.proofs.unions.Bases.with_list.Goals.{After-deref}
+use Rattle.signatures.proofs.unions.Bases.with_list.Goals as goal
 
 -- Before the call of `with`, the vector `held` contains the pairs of the list with the ID `few`.
 held_is : (c : After-deref) → c.deref.result.now ≡ list_at c.args.self.now.trie c.args.few

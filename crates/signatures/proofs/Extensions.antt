@@ -1,28 +1,27 @@
 -- A list is stored in two parts: its base, which is a list of pairs that several lists can share, and its extra pairs,
 -- which are all other pairs of the list. The bases are stored in a separate store, which is called the trie. Some
 -- lemmas show when two lists that are stored in this way are equal. Other lemmas show that the stored lists stay the
--- same if lists are added to the trie, or if a list is appended to the table of lists.
+-- same if lists are added to the trie, or if a list is appended to the table of lists. The last lemmas are about the
+-- union of several lists: the bases of the lists are united, and the extra pairs of the lists are collected. Collected
+-- pairs that are already in the base of the union are removed.
 use Rattle.std.proofs.Common.{rules, ◌≡◌, ◌∙◌, ◌⊎◌, ◌↔◌, ℕ, ◌<◌, ◌≤◌, List, [], ◌∷◌, ◌++◌, length, slice_index}
-use Rattle.std.proofs.Common.{Contains, ap, inl, inr, arith, All}
-use Rattle.std.specs.List.Sorted.{IsStrictlySortedBy}
-use Rattle.std.proofs.lemmas.Bool.{cases_eq, cases_lt}
+use Rattle.std.proofs.Common.{Contains, ap, inl, inr, arith, All, ◌+◌, Bool, true, not, filter, Option, None, Some}
+use Rattle.std.proofs.Common.{refl, IfSome, get_or-append-add, length-append}
+use Rattle.std.specs.{List.Sorted.IsStrictlySortedBy, Cmp.eq_by_cmp_equiv, Ordering.eq_by_cmp, Set.is_member}
+use Rattle.std.proofs.lemmas.Bool.{cases_eq, cases_lt, cases_Bool}
 use Rattle.std.proofs.lemmas.List.{length-map, length_push, map-append, get_or-map, get_or_append_left, nil_from_length}
 use Rattle.std.proofs.lemmas.List.Elements.{All-push, All-weaker, All-contains, All-map}
+use Rattle.std.proofs.lemmas.{List.get_or-append_right, Map.Made.is_member-filter}
 use Rattle.signatures.specs.Lists.{pair_cmp, list_at, merged, AreLists, Grow, HasOne}
-use Rattle.signatures.specs.Nodes.{AreStored}
-use Rattle.signatures.specs.Hashed.{tag_of, AreDifferent, IsNewList}
 use Rattle.signatures.specs.Extensions.{Includes, extension_at, extended, IsExtension, extended_lists, AreExtended}
-use Rattle.signatures.specs.Extensions.{TableGrows}
-use Rattle.signatures.specs.Unions.{Unites}
-use Rattle.signatures.specs.declared.nodes.TheConstants.{MOST_LISTS}
-use Rattle.signatures.specs.declared.table.Table.{Table}
-use Rattle.signatures.proofs.Joining.{Grow-same}
-use Rattle.signatures.proofs.Keeping.{map_same}
-use Rattle.signatures.proofs.Storing.{list-old, list-new}
+use Rattle.signatures.specs.Extensions.{TableGrows, ShareNone, OneHas, HasBase, HasExtra}
+use Rattle.signatures.specs.{Nodes.AreStored, Hashed.tag_of, Hashed.AreDifferent, Hashed.IsNewList, Unions.Unites}
+use Rattle.signatures.specs.{declared.nodes.TheConstants.MOST_LISTS, declared.table.Table.Table}
+use Rattle.signatures.proofs.Joining.{Grow-same, SomeBelow, up_to_more}
+use Rattle.signatures.proofs.Storing.{map_same, list-old, list-new}
+use Rattle.signatures.proofs.Ascending.{merged_nil, merged_has, merged_ascending, ascending_unique, has_pair}
+use Rattle.signatures.proofs.{Ascending.pair_total, Ascending.pair_Decides, Unions.unites_is_merged}
 use Rattle.std_collections.proofs.SortedSets.{length_union}
-use Rattle.signatures.proofs.Merging.{merged_nil, merged_has, merged_ascending}
-use Rattle.signatures.proofs.Extending.{unites_is_merged}
-use Rattle.signatures.proofs.Ascending.{ascending_unique}
 
 -- A list is stored in two parts: its base, which is a list of pairs that several lists can share, and its extra pairs,
 -- which are all other pairs of the list. The bases are stored in a separate store, which is called the trie. Suppose
@@ -159,3 +158,111 @@ pub includes_all : (lists : List (List (ℕ × ℕ))) (ids : List ℕ) (pairs : 
 includes_all lists ids pairs i low all has z =
     let own = All-contains (Contains (list_at lists (slice_index ids i))) pairs z has in
     (λ d. inr (i, low, d), λ o. elim o [ inl d ↦ own d | inr (j, less, d) ↦ all j 0 less z d ])
+
+-- `IsExtra` is about the list whose ID is at the index j of `ids`. The list is stored in two parts: its base, which is
+-- a list of pairs that several lists can share, and its extra pairs, which are all other pairs of the list. `IsExtra`
+-- holds if z is an extra pair of this list, and if P holds for the ID of the base of this list.
+abbrev pub IsExtra : List (ℕ × List (ℕ × ℕ)) → List ℕ → (ℕ → Type 0) → ℕ × ℕ → ℕ → Type 0
+IsExtra extensions ids P z j =
+    P (extension_at extensions (slice_index ids j)).0 × Contains (extension_at extensions (slice_index ids j)).1 z
+
+-- A list is stored in two parts: its base, which is a list of pairs that several lists can share, and its extra pairs,
+-- which are all other pairs of the list. Suppose that a loop has gone through the first i IDs in `ids`, and has
+-- collected the extra pairs of exactly those lists whose base has an ID for which P holds. Let x be the list with the
+-- next ID. If P holds for the ID of the base of x, the loop collects the extra pairs of x, and otherwise it collects
+-- nothing. Then the loop has gone through the first i + 1 IDs, and has still collected the extra pairs of exactly those
+-- lists whose base has an ID for which P holds.
+module _ (extensions : List (ℕ × List (ℕ × ℕ))) (ids : List ℕ) (P : ℕ → Type 0) (z : ℕ × ℕ) (x : ℕ × List (ℕ × ℕ))
+    (i : ℕ) (is : x ≡ extension_at extensions (slice_index ids i)) {B D : Type 0}
+    (before : B ↔ (D ⊎ SomeBelow (IsExtra extensions ids P z) i)) where
+  pub extra_skip : (P x.0 → ⊥) → B ↔ (D ⊎ SomeBelow (IsExtra extensions ids P z) (i + 1))
+  extra_skip none = search (rules, up_to_more (IsExtra extensions ids P z) i)
+
+  pub extra_more : {A : Type 0} → P x.0 → A ↔ (B ⊎ Contains x.1 z) →
+      A ↔ (D ⊎ SomeBelow (IsExtra extensions ids P z) (i + 1))
+  extra_more p now = search (rules, up_to_more (IsExtra extensions ids P z) i)
+
+-- `is_lacking` is true if the pair z is not in the list.
+abbrev pub is_lacking : List (ℕ × ℕ) → ℕ × ℕ → Bool
+is_lacking list z = not (is_member (eq_by_cmp pair_cmp) list z)
+
+-- Suppose that the list xs is filtered by a test. Then a pair is in the filtered list if and only if the pair is in xs
+-- and passes the test.
+passing_has : (p : ℕ × ℕ → Bool) (xs : List (ℕ × ℕ)) (z : ℕ × ℕ) → Contains (filter p xs) z
+    ↔ (Contains xs z × (p z ≡ true))
+passing_has p xs z =
+    let same = is_member-filter (eq_by_cmp_equiv pair_total) p z (λ x e. ap p ((pair_Decides z x).0 e)) xs in
+    grind (arith, has_pair (filter p xs) z, has_pair xs z, same, cases_Bool (p z))
+
+-- Suppose that the list `new` results from the list `old` by removing all pairs that are in `list`. Then `new` has no
+-- pair in common with `list`. The lists `list` and `new` together contain the same pairs as the lists `list` and `old`
+-- together.
+module _ (list old new : List (ℕ × ℕ)) (is : new ≡ filter (is_lacking list) old) where
+  pub lack_apart : ShareNone list new
+  lack_apart z d e = grind (arith, is, passing_has (is_lacking list) old z, has_pair list z)
+
+  pub lack_same : (z : ℕ × ℕ) → (Contains list z ⊎ Contains new z) ↔ (Contains list z ⊎ Contains old z)
+  lack_same z =
+      let test = is_member (eq_by_cmp pair_cmp) list z in
+      grind (arith, is, passing_has (is_lacking list) old z, has_pair list z, cases_Bool test)
+
+own_or_not : (own : Option ℕ) (base : ℕ) → (own ≡ Some base) ⊎ ¬ (own ≡ Some base)
+own_or_not None base = search rules
+own_or_not (Some own) base = search (rules, cases_eq own base)
+
+-- A list is stored in two parts: its base, which is a list of pairs that several lists can share, and its extra pairs,
+-- which are all other pairs of the list. A pair is in at least one of several lists if and only if the pair is in the
+-- base of at least one of these lists, or is an extra pair of at least one of these lists. The lemma distinguishes two
+-- kinds of extra pairs: the extra pairs of lists whose base has the ID `own`, and the extra pairs of all other lists.
+module _ (trie : List (List (ℕ × ℕ))) (extensions : List (ℕ × List (ℕ × ℕ))) (ids : List ℕ)
+    (known : All (λ k. k < length extensions) ids)
+    (own : Option ℕ) (z : ℕ × ℕ) where
+  pub all_have : HasOne (extended_lists trie extensions) ids z
+      ↔ (HasBase trie extensions ids z ⊎ (HasExtra extensions ids
+      (λ b. ¬ (own ≡ Some b)) z ⊎ HasExtra extensions ids (λ b. own ≡ Some b) z))
+  all_have =
+      let at = λ (j : ℕ) (low : j < length ids). let k = slice_index ids j in
+      has_either trie extensions refl k (rw length-map (known j 0 low)) (extension_at extensions k) refl z in (
+        λ (j, low, has). let is = own_or_not own (extension_at extensions (slice_index ids j)).0 in
+            search (rules, at j low),
+        λ o. elim o [
+          | inl h ↦ (h.0, h.1, (at h.0 h.1).1 (inl h.2))
+          | inr (inl h) ↦ (h.0, h.1, (at h.0 h.1).1 (inr h.2.1))
+          | inr (inr h) ↦ (h.0, h.1, (at h.0 h.1).1 (inr h.2.1))
+        ],
+      )
+
+-- The union of several lists and of some pairs is computed in several steps. Suppose that each step satisfies its
+-- contract. Then the base of the result and the extra pairs after the last step together contain exactly the pairs of
+-- the union.
+pub joined_all : {B G H L M O P R S T : Type 0} → B ↔ R → G ↔ (P ⊎ S) → O ↔ G → (B ⊎ L) ↔ (B ⊎ O) → M ↔ (L ⊎ T)
+    → H ↔ (R ⊎ (S ⊎ T)) → (B ⊎ M) ↔ (P ⊎ H)
+joined_all whole gathered ordered lacked merged all = search rules
+
+-- A list is stored in two parts: its base, which is a list of pairs that several lists can share, and its extra pairs,
+-- which are all other pairs of the list. Suppose that `pairs` consists of the pairs in `left` and of the extra pairs of
+-- some lists that have the same base. Suppose also that no pair in `left` is in this base. Then no pair in `pairs` is
+-- in this base.
+pub joined_apart : (old trie : List (List (ℕ × ℕ))) (extensions : List (ℕ × List (ℕ × ℕ))) (ids : List ℕ) (base : ℕ)
+    (own : Option ℕ)
+    (left pairs : List (ℕ × ℕ)) → IfSome own (λ b. b ≡ base) → Grow old trie → All (IsExtension old) extensions
+    → All (λ k. k < length extensions) ids → ShareNone (list_at trie base) left
+    → ((z : ℕ × ℕ) → Contains pairs z ↔ (Contains left z ⊎ HasExtra extensions ids (λ b. own ≡ Some b) z))
+    → ShareNone (list_at trie base) pairs
+joined_apart old trie extensions ids base own left pairs is_base grow each known apart merged z d e =
+    elim ((merged z).0 e) [
+      | inl l ↦ apart z d l
+      | inr (j, low, has) ↦
+          let is = each (slice_index ids j) (0, []) (known j 0 low) in
+          let same : (extension_at extensions (slice_index ids j)).0 ≡ base = grind arith in
+          is.apart z (rw (← grow.same _ is.base, same) d) has.1
+    ]
+
+-- Suppose that `all` is the list xs followed by the list ys. Then P holds for at least one element of `all` if and only
+-- if P holds for at least one element of xs or of ys.
+pub one_of_both : (P : ℕ → Type 0) (xs ys all : List ℕ) → xs ++ ys ≡ all → OneHas P all ↔ (OneHas P xs ⊎ OneHas P ys)
+one_of_both P xs ys all e =
+    search (rules, cases_lt, get_or_append_left, get_or-append_right, get_or-append-add, length-append)
+
+pub joined_halves : {A B C H I W : Type 0} → A ↔ (B ⊎ C) → B ↔ H → C ↔ I → W ↔ (H ⊎ I) → A ↔ W
+joined_halves union first second whole = search rules

@@ -2,21 +2,28 @@
 -- the split point, the pair is represented by the number x * 2^32 + y (`pair_value`). The first half contains the pairs
 -- that are less than the split point, and the second half contains all other pairs. To compute the union of two lists,
 -- each of the two lists is divided at the split point of the union into a lower and an upper part. The union of the two
--- lower parts is the first half of the result, and the union of the two upper parts is the second half.
+-- lower parts is the first half of the result, and the union of the two upper parts is the second half. If two lists
+-- have no pair in common, the fingerprint (a hash of 64 bits) of their union is the sum of their fingerprints, modulo
+-- 2^64. The last lemmas are about the union cache, which is a hash table of unions that were computed before. Each
+-- entry of the cache contains the IDs of two lists and the ID of their union.
 use Rattle.std.proofs.Common.{◌≡◌, ◌⊎◌, ◌↔◌, ℕ, ◌+◌, ◌-◌, ◌<◌, min, max, List, [], ◌++◌, length, sym, subst, refl, inr}
-use Rattle.std.proofs.Common.{arith, rules, length-append, append-nil}
-use Rattle.std.specs.List.Sorted.{IsStrictlySortedBy}
-use Rattle.signatures.specs.declared.nodes.{Halves.Halves, TheConstants.MOST_WHOLE}
-use Rattle.signatures.specs.Lists.{pair_cmp, list_at, merged, Grow}
-use Rattle.signatures.specs.Cuts.{IsCutPoint, IsAlike, IsCut, IsUnder, IsOver, IsParted}
-use Rattle.signatures.specs.Nodes.{IsHalved, AreHalvesIn}
-use Rattle.signatures.specs.Unions.{Unites, IsSplit}
-use Rattle.signatures.proofs.Cuts.{alike_wider}
-use Rattle.signatures.proofs.Keys.{halves_has, parts_has, parts_shorter}
-use Rattle.signatures.proofs.Halving.{HasEnds, IsCut-ends, HasEnds-union, AreHalvesIn-parts}
-use Rattle.signatures.proofs.Merging.{merged_has}
-use Rattle.signatures.proofs.Joining.{or_swap}
-use Rattle.signatures.proofs.Ascending.{ascending_fewer}
+use Rattle.std.proofs.Common.{arith, rules, length-append, append-nil, ◌∙◌, ◌%◌, ◌^◌, ◌∷◌, Contains, Less, Equal}
+use Rattle.std.proofs.Common.{Greater, ap, inl, sum_by, is_eq, Ordering, map, set, replicate, Result, IfOk, All}
+use Rattle.std.specs.{List.Sorted.IsStrictlySortedBy, Ordering.match_ordering}
+use Rattle.signatures.specs.{declared.nodes.Halves.Halves, declared.nodes.TheConstants.MOST_WHOLE, Lists.pair_cmp}
+use Rattle.signatures.specs.{Lists.list_at, Lists.merged, Lists.Grow, Cuts.IsCutPoint, Cuts.IsAlike, Cuts.IsCut}
+use Rattle.signatures.specs.{Cuts.IsUnder, Cuts.IsOver, Cuts.IsParted, Cuts.Fit, Nodes.IsHalved, Nodes.AreHalvesIn}
+use Rattle.signatures.specs.{Unions.Unites, Unions.IsSplit, Unions.union_entry, Unions.IsNone, Unions.IsUnion}
+use Rattle.signatures.specs.{Unions.AreUnions, Hashed.fingerprint_of, Extensions.ShareNone}
+use Rattle.signatures.specs.{declared.union_cache.Union.Union, declared.union_cache.TheConstants.NO_UNION}
+use Rattle.signatures.proofs.Cuts.{alike_wider, halves_has, parts_has, parts_shorter, HasEnds, IsCut-ends}
+use Rattle.signatures.proofs.Cuts.{HasEnds-union, AreHalvesIn-parts, halves_ascending, parts_both}
+use Rattle.signatures.proofs.Ascending.{merged_has, ascending_fewer, pair_Decides, here, there, ascending_unique}
+use Rattle.signatures.proofs.{Ascending.merged_ascending, Joining.or_swap}
+use Rattle.std.proofs.lemmas.List.Elements.{All-map, All-replicate}
+use Rattle.std.proofs.lemmas.{List.Sums.sum_by-cons, Bool.cases_lt, List.map-set}
+use Rattle.buckets.specs.Hashing.{hash_of}
+use native.Mathlib.Nat.{add-mod}
 
 -- Each pair (x, y) is represented by the number x * 2^32 + y (`pair_value`). Suppose that the numbers for all pairs of
 -- a list are less than c. Then c divides the list into the whole list and the empty list. Suppose instead that the
@@ -140,3 +147,105 @@ placed {bit = bit} {l} {h} {c} place first second l_is h_is = (
 -- The merge of two lists contains exactly the pairs of both lists.
 pub unites_merged : (list xs ys : List (ℕ × ℕ)) → list ≡ merged xs ys → Unites list ys xs
 unites_merged list xs ys e = rw e (λ z. or_swap (merged_has z xs ys))
+
+at_order : (P : List (ℕ × ℕ) → Type 0) (o : Ordering) (a b c : List (ℕ × ℕ)) → (o ≡ Less → P a) → (o ≡ Equal → P b)
+    → (o ≡ Greater → P c) → P (match_ordering o a b c)
+at_order P Less a b c f g h = f refl
+at_order P Equal a b c f g h = g refl
+at_order P Greater a b c f g h = h refl
+
+-- The hash sum of a list is the sum of the hashes of its pairs. Suppose that two lists have no pair in common. Then the
+-- hash sum of the merge of the two lists is the sum of their hash sums.
+sum_cons : (x : ℕ × ℕ) (xs : List (ℕ × ℕ)) → ((ys : List (ℕ × ℕ)) → ShareNone xs ys →
+    sum_by hash_of (merged xs ys) ≡ sum_by hash_of xs + sum_by hash_of ys) → (ys : List (ℕ × ℕ))
+    → ShareNone (x ∷ xs) ys → sum_by hash_of (merged (x ∷ xs) ys) ≡ sum_by hash_of (x ∷ xs) + sum_by hash_of ys
+sum_cons x xs h [] apart = omega arith
+sum_cons x xs h (y ∷ ys) apart =
+    let first = sum_by-cons hash_of x in
+    let second = sum_by-cons hash_of y in
+    at_order (λ l. sum_by hash_of l ≡ sum_by hash_of (x ∷ xs) + sum_by hash_of (y ∷ ys)) (pair_cmp x y) _ _ _
+    (λ e. omega (arith, first xs, first (merged xs (y ∷ ys)), h (y ∷ ys) (λ z d. apart z (there x xs z d))))
+    (λ e. absurd (apart y (subst (Contains (x ∷ xs)) ((pair_Decides x y).0 (ap is_eq e)) (here x xs)) (here y ys)))
+    (λ e.
+    omega (arith, second ys, second (merged (x ∷ xs) ys), sum_cons x xs h ys (λ z d e. apart z d (there y ys z e))))
+
+sum_merged : (xs ys : List (ℕ × ℕ)) → ShareNone xs ys →
+    sum_by hash_of (merged xs ys) ≡ sum_by hash_of xs + sum_by hash_of ys
+sum_merged [] ys apart = omega arith
+sum_merged (x ∷ xs) ys apart = sum_cons x xs (sum_merged xs) ys apart
+
+pub fingerprint_merged : (xs ys : List (ℕ × ℕ)) → ShareNone xs ys
+    → (fingerprint_of xs + fingerprint_of ys) % 2 ^ 64 ≡ fingerprint_of (merged xs ys)
+fingerprint_merged xs ys apart =
+    sym (add-mod (sum_by hash_of xs) (sum_by hash_of ys) (2 ^ 64)) ∙ ap (λ n. n % 2 ^ 64) (sym (sum_merged xs ys apart))
+
+-- Suppose that a list contains exactly the pairs of two other lists, and that all three lists are in strictly ascending
+-- order. Then this list is the merge of the two other lists.
+pub unites_is_merged : (list few base : List (ℕ × ℕ)) → IsStrictlySortedBy pair_cmp list
+    → IsStrictlySortedBy pair_cmp few → IsStrictlySortedBy pair_cmp base → Unites list few base → list ≡ merged base few
+unites_is_merged list few base ascending ascending_few ascending_base unites =
+    ascending_unique list (merged base few) ascending (merged_ascending base few ascending_base ascending_few)
+    (λ z. grind (arith, merged_has z base few, unites z))
+
+pub merged_fit : (xs ys : List (ℕ × ℕ)) → Fit xs → Fit ys → Fit (merged xs ys)
+merged_fit xs ys fit fit' z d = elim ((merged_has z xs ys).0 d) [ inl a ↦ fit z a | inr b ↦ fit' z b ]
+
+-- Suppose that two lists are in strictly ascending order, and that the second component of each of their pairs is less
+-- than 2^32 (`Fit`). Suppose also that the number c divides each of the two lists into two parts. To compare a pair
+-- (x, y) with c, the pair is represented by the number x * 2^32 + y (`pair_value`). The lower part contains the pairs
+-- that are less than c, and the upper part contains the other pairs. Then the merge of the two lists is the merge of
+-- the two lower parts, followed by the merge of the two upper parts.
+pub merged_halves : {list few below above below' above' : List (ℕ × ℕ)} {c : ℕ} → IsParted list c below above
+    → IsParted few c below' above'
+    → IsStrictlySortedBy pair_cmp list → IsStrictlySortedBy pair_cmp few → Fit list → Fit few
+    → merged below below' ++ merged above above' ≡ merged list few
+merged_halves {list} {few} {below} {above} {below'} {above'} {c} first second ascending ascending' fit fit' =
+    let one = parts_both first ascending fit in
+    let two = parts_both second ascending' fit' in
+    let low = unites_merged _ below below' refl in
+    let high = unites_merged _ above above' refl in
+    unites_is_merged (merged below below' ++ merged above above') few list
+    (halves_ascending _ _ c (merged_ascending _ _ one.0.0 two.0.0) (merged_ascending _ _ one.1.0 two.1.0)
+    (merged_fit below below' one.0.1 two.0.1) (merged_fit above above' one.1.1 two.1.1)
+    (united_under second first _ _ low high) (united_over second first _ _ low high))
+    ascending' ascending (united second first _ _ low high)
+
+pub if_both : {X E : Type 0} (r : Result X E) (P Q : X → Type 0) → IfOk r P → IfOk r Q → IfOk r (λ x. P x × Q x)
+if_both r P Q p q = grind arith
+
+pub none_stored : (unions : List Union) (n : ℕ) → unions ≡ replicate n NO_UNION → All IsNone (map union_entry unions)
+none_stored unions n e =
+    rw e (All-map IsNone union_entry _ (All-replicate (λ u. IsNone (union_entry u)) n NO_UNION refl))
+
+-- The union cache is a hash table of unions that were computed before. Suppose that one slot of the cache is
+-- overwritten with a new entry. Then each entry that the cache contains after this is the new entry, or was in the
+-- cache before.
+pub written : (unions : List Union) (p : ℕ) (u : Union) (z : (ℕ × ℕ) × ℕ)
+    → Contains (map union_entry (set unions p u)) z → Contains (map union_entry unions) z ⊎ (z ≡ union_entry u)
+written unions p u z has = search (rules, map-set)
+
+-- If the list with the ID 0 is united with itself, the union is the same list. In the union cache, which is a hash
+-- table of unions that were computed before, this union fills each empty slot.
+pub IsUnion-none : (lists : List (List (ℕ × ℕ))) → 0 < length lists → IsUnion lists (0, 0) 0
+IsUnion-none lists some = search rules
+
+-- The union of two lists does not depend on the order of the two lists.
+pub IsUnion-swap : {lists : List (List (ℕ × ℕ))} {j k i : ℕ} → IsUnion lists (j, k) i → IsUnion lists (k, j) i
+IsUnion-swap is = search (rules, is.within, is.second, is.first, or_swap, is.exactly)
+
+pub IsUnion-in_order : (lists : List (List (ℕ × ℕ))) (j k i : ℕ) →
+    IsUnion lists (j, k) i ↔ IsUnion lists (min j k, max j k) i
+IsUnion-in_order lists j k i = elim (cases_lt j k) [
+  | inl less ↦ search rules
+  | inr more ↦
+      let order : (min j k ≡ k) × (max j k ≡ j) = (omega arith, omega arith) in
+      rw (order.0, order.1) (IsUnion-swap, IsUnion-swap)
+]
+
+-- The union cache is a hash table of unions that were computed before. An entry of the cache contains the IDs of two
+-- lists and the ID of their union. Suppose that each entry of the cache is correct (`IsUnion`). If a correct entry is
+-- stored in the cache, each entry is still correct, even if old entries are removed.
+pub AreUnions-store : {lists : List (List (ℕ × ℕ))} (unions stored : List ((ℕ × ℕ) × ℕ)) (key : ℕ × ℕ) (i : ℕ)
+    → AreUnions lists unions → IsUnion lists key i
+    → ((z : (ℕ × ℕ) × ℕ) → Contains stored z → Contains unions z ⊎ IsNone z ⊎ (z ≡ (key, i))) → AreUnions lists stored
+AreUnions-store unions stored key i are is from z d = search (rules, from z d, are z, is.within, IsUnion-none)
