@@ -120,18 +120,13 @@ module _ (laws : Laws) {u : Under} (lts : IsLts u.l) {signatures : List (List (�
         };
       }
 
--- Let the element x be appended to the list xs, and let the element y be appended to the list ys. Suppose that ys
--- contains y' if xs contains x'. Suppose also that y equals y' if x equals x'. Then, if the list xs with x appended
--- contains x', the list ys with y appended contains y'.
-more : {X Y : Type 0} (xs : List X) (ys : List Y) {x x' : X} {y y' : Y} → (Contains xs x' → Contains ys y')
-    → (x ≡ x' → y ≡ y') → Contains (xs ++ x ∷ []) x' → Contains (ys ++ y ∷ []) y'
-more xs ys {x = x} {x' = x'} {y = y} {y' = y'} old new c = elim (Contains-push_cases xs x x' c) [
-  | inl was ↦ Contains-append_left ys (y ∷ []) y' (old was)
-  | inr e ↦ rw (← new e) (Contains-push ys y)
-]
-
-less : {X : Type 0} (xs : List X) {x x' : X} → ¬ (x ≡ x') → Contains (xs ++ x ∷ []) x' → Contains xs x'
-less xs {x = x} {x' = x'} other c = elim (Contains-push_cases xs x x' c) [ inl was ↦ was | inr e ↦ absurd (other e) ]
+-- If the element x is appended to the list xs, then the resulting list contains y if and only if xs contains y, or x
+-- equals y.
+pushed : {X : Type 0} (xs : List X) (x y : X) → Contains (xs ++ x ∷ []) y ↔ (Contains xs y ⊎ (x ≡ y))
+pushed xs x y = (
+  Contains-push_cases xs x y,
+  λ c. elim c [ inl was ↦ Contains-append_left xs (x ∷ []) y was | inr e ↦ rw (← e) (Contains-push xs x) ],
+)
 
 -- An item is a pair (label ID, block) or a signature ID. These lemmas assume that the first n items in the list `all`
 -- were collected: their pairs are in the list `pairs`, and their signature IDs are in the list `signature_ids`. The
@@ -143,16 +138,16 @@ module _ (all : List Item) (n : ℕ) (signature_ids : List ℕ) (pairs : List (�
 
   pub taken_pair : {a b : ℕ} → item_at all n ≡ Pair a b
       → AreCollected (take (n + 1) all) signature_ids (pairs ++ (a, b) ∷ [])
-  taken_pair is = rw (take_more all n (Pair 0 0) low, is) (record {
-    named = λ k. (λ c. Contains-append_left _ _ _ ((taken.named k).0 c), λ c. (taken.named k).1 (less xs (λ e. cc) c));
-    own = λ x y. (more pairs xs (taken.own x y).0 (ap (λ z. Pair z.0 z.1)), more xs pairs (taken.own x y).1 (λ e. cc));
+  taken_pair {a} {b} is = rw (take_more all n (Pair 0 0) low, is) (record {
+    named = λ k. grind (arith, taken.named k, pushed xs (Pair a b) (Interned k));
+    own = λ x y. grind (arith, taken.own x y, pushed xs (Pair a b) (Pair x y), pushed pairs (a, b) (x, y));
   })
 
   pub taken_list : {j : ℕ} → item_at all n ≡ Interned j
       → AreCollected (take (n + 1) all) (signature_ids ++ j ∷ []) pairs
-  taken_list is = rw (take_more all n (Pair 0 0) low, is) (record {
-    named = λ k. (more signature_ids xs (taken.named k).0 (λ e. cc), more xs signature_ids (taken.named k).1 (λ e. cc));
-    own = λ x y. (λ c. Contains-append_left _ _ _ ((taken.own x y).0 c), λ c. (taken.own x y).1 (less xs (λ e. cc) c));
+  taken_list {j} is = rw (take_more all n (Pair 0 0) low, is) (record {
+    named = λ k. grind (arith, taken.named k, pushed xs (Interned j) (Interned k), pushed signature_ids j k);
+    own = λ x y. grind (arith, taken.own x y, pushed xs (Interned j) (Pair x y));
   })
 
 -- An item is a pair (label ID, block) or a signature ID. Suppose that the list xs contains exactly the signature IDs

@@ -1,8 +1,8 @@
 //! The public interface of the search: computes the branching signatures of all states that a round processes.
-ghost use Rattle.std.specs.Prelude.{◌≡◌, ◌⊎◌, ℕ, ◌<◌, length, slice_index, OnOk};
+ghost use Rattle.std.specs.Prelude.{◌≡◌, ℕ, ◌<◌, length, slice_index, OnOk};
 ghost use Rattle.lts.specs.Meter.{HasRoomFor, Costs};
 ghost use Rattle.lts.specs.Visited.{remaining_of};
-ghost use Rattle.partition.specs.Blocks.{IsMember, AreActive, InactiveHaveNone};
+ghost use Rattle.partition.specs.Blocks.{AreActive, InactiveHaveNone};
 ghost use Rattle.inert.specs.Signed.{CachesBeside, SignsActive, IsIdIfChanged};
 ghost use Rattle.inert.specs.Search.{stage_at, id_of, IsFinished, HasEnded};
 ghost use Rattle.inert.specs.SearchMoves.{IsAtRest, ReturnsToRest};
@@ -128,16 +128,17 @@ fn any(visited: &Visited) -> Option<&Visited>
     Some(visited)
 }
 
-/// Copies the cached signature ID of each active state (each state that the round processes) to `signature_ids`.
+/// Copies the cached signature ID of each active state (each state that the round processes) to `signature_ids`. Every
+/// other state must have the ID 0 in `signature_ids`, and keeps this ID.
 fn copy_cached_ids(search: &DepthFirstSearch, active: &[u32], signature_ids: &mut [u32])
     requires size { length signature_ids.old ≡ length search.now.stages }
     requires active { AreActive (length search.now.stages) active.now }
     requires over { HasEnded search.now }
+    requires none { InactiveHaveNone active.now signature_ids.old }
     ensures active { (i : ℕ) → i < length active.now →
         let s = slice_index active.now i in
         slice_index signature_ids.new s ≡ id_of (stage_at search.now.stages s) }
-    ensures others { (s : ℕ) → IsMember active.now s
-        ⊎ (slice_index signature_ids.new s ≡ slice_index signature_ids.old s) }
+    ensures none { InactiveHaveNone active.now signature_ids.new }
 {
     for i in 0..active.len() {
         let s = active[i] as usize;
@@ -180,17 +181,17 @@ fn search_all<M: Meter>(
 /// All active states (the states that the round processes) must be completed. The entry of an active state in
 /// `signature_ids` is its old signature ID. If the new signature ID of the state is different, the function replaces
 /// the entry by the new ID. If the two IDs are equal, the function replaces the entry by `EMPTY`, the ID of the empty
-/// signature.
+/// signature. Every other state must have the ID 0 in `signature_ids`, and keeps this ID.
 fn write_split_ids(search: &DepthFirstSearch, active: &[u32], signature_ids: &mut [u32])
     requires size { length signature_ids.old ≡ length search.now.stages }
     requires active { AreActive (length search.now.stages) active.now }
     requires finished { (i : ℕ) → i < length active.now →
         IsFinished search.now.stages (slice_index active.now i) }
+    requires none { InactiveHaveNone active.now signature_ids.old }
     ensures active { (i : ℕ) → i < length active.now → let s = slice_index active.now i in
         IsIdIfChanged (slice_index signature_ids.old s) (id_of (stage_at search.now.stages s))
         (slice_index signature_ids.new s) }
-    ensures others { (s : ℕ) → IsMember active.now s
-        ⊎ (slice_index signature_ids.new s ≡ slice_index signature_ids.old s) }
+    ensures none { InactiveHaveNone active.now signature_ids.new }
 {
     for i in 0..active.len() {
         let s = active[i] as usize;

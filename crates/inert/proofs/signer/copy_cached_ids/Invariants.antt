@@ -1,5 +1,5 @@
-use Rattle.std.proofs.Common.{◌≡◌, ◌⊎◌, ℕ, ◌<◌, length, slice_index}
-use Rattle.partition.specs.Blocks.{IsMember}
+use Rattle.std.proofs.Common.{◌≡◌, ℕ, ◌<◌, length, slice_index}
+use Rattle.partition.specs.Blocks.{InactiveHaveNone}
 use Rattle.inert.specs.Search.{stage_at, id_of}
 use Rattle.inert.proofs.signer.copy_cached_ids.Given as goal
 
@@ -8,5 +8,5 @@ invariant-loop-i l = record {
   size : length l.signature_ids ≡ length l.initial.signature_ids;
   have : (j : ℕ) → j < l.i → slice_index l.signature_ids (slice_index l.active j)
       ≡ id_of (stage_at l.search.stages (slice_index l.active j));
-  others : (s : ℕ) → IsMember l.active s ⊎ (slice_index l.signature_ids s ≡ slice_index l.initial.signature_ids s);
+  none : InactiveHaveNone l.active l.signature_ids;
 }

@@ -21,5 +21,5 @@ loop-i-preserved c = let active = c.args.active.now in let inv = c.loop-i.invari
           ∙ inv.ahead j (omega arith) l;
       have = below_more _ _ (λ j h. rw (old (slice_index active j) (λ e. omega (arith, e, up j c.loop-i.i h more)))
           (inv.have j h)) (rw (here, ← inv.ahead c.loop-i.i (omega arith) more) shown);
-      others = λ t. grind (arith, cases_eq t s, old t, inv.others t, more);
+      none = λ t h. grind (arith, cases_eq t s, old t, inv.none t, more, length-set c.loop-i.signature_ids s new, h);
     }

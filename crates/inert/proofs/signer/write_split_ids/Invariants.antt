@@ -1,5 +1,5 @@
-use Rattle.std.proofs.Common.{◌≡◌, ◌⊎◌, ℕ, ◌<◌, ◌≤◌, length, slice_index}
-use Rattle.partition.specs.Blocks.{IsMember}
+use Rattle.std.proofs.Common.{◌≡◌, ℕ, ◌<◌, ◌≤◌, length, slice_index}
+use Rattle.partition.specs.Blocks.{InactiveHaveNone}
 use Rattle.inert.specs.{Signed.IsIdIfChanged, Search.stage_at, Search.id_of}
 use Rattle.inert.proofs.signer.write_split_ids.Given as goal
 
@@ -11,5 +11,5 @@ invariant-loop-i l = record {
   have : (j : ℕ) → j < l.i → let s = slice_index l.active j in
       IsIdIfChanged (slice_index l.initial.signature_ids s) (id_of (stage_at l.search.stages s))
       (slice_index l.signature_ids s);
-  others : (s : ℕ) → IsMember l.active s ⊎ (slice_index l.signature_ids s ≡ slice_index l.initial.signature_ids s);
+  none : InactiveHaveNone l.active l.signature_ids;
 }

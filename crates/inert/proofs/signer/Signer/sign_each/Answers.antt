@@ -1,4 +1,4 @@
-use Rattle.std.proofs.Common.{◌≡◌, ◌∙◌, sym, arith}
+use Rattle.std.proofs.Common.{◌≡◌, ◌∙◌}
 use Rattle.std.proofs.Math.Path.{ap₂}
 use Rattle.inert.specs.{Signed.CachesBeside, Steps.under, Search.cached}
 use Rattle.inert.proofs.Resting.{woken_rests, over_again, signs_active}
@@ -33,22 +33,21 @@ pub returns-in-Err-clause-visits : goal.returns-in-Err-clause-visits
 returns-in-Err-clause-visits g c =
     rw (is g (goal.at.returns-in-Err-clause-visits g c).After-new-lens) at c.search_all.ensures.visits
 
+pub copy_cached_ids-requires-clause-none : goal.copy_cached_ids-requires-clause-none
+copy_cached_ids-requires-clause-none g c = rw c.active-active.ensures.active c.requires.signature_ids.1
+
 pub returns-in-Err-clause-others : goal.returns-in-Err-clause-others
-returns-in-Err-clause-others g c s h = let others = c.copy_cached_ids.ensures.others s in
-    let none = c.requires.signature_ids.1 s in
-    grind (arith, others, none, c.copy_cached_ids.auto.signature_ids, c.active-active.ensures.active)
+returns-in-Err-clause-others g c = rw c.active-active.ensures.active at c.copy_cached_ids.ensures.none
 
 pub returns-in-Ok : goal.returns-in-Ok
 returns-in-Ok g c = let done = c.in-Ok.ensures in
     let d = (goal.at.returns-in-Ok g c).After-new-lens in
     let active = c.active-active.ensures.active in
-    let put = c.copy_cached_ids in let shown = c.write_split_ids in
-    let none = rw (sym active) at c.requires.signature_ids.1 in
-    let told = signs_active (had g d) c.self.invariant c.mark_unvisited.ensures done.rests done.all _ _ _ none
-    (shown.auto.signature_ids ∙ put.auto.signature_ids) put.ensures.active shown.ensures.active put.ensures.others
-    shown.ensures.others in
+    let shown = c.write_split_ids.ensures in
+    let told = signs_active (had g d) c.self.invariant c.mark_unvisited.ensures done.rests done.all _ _ shown.none
+    c.copy_cached_ids.ensures.active shown.active in
     record {
-      signs = rw (is g d, active, c.self.view_is) at told.0;
+      signs = rw (is g d, active, c.self.view_is) at told;
       visits = rw (is g d) at c.search_all.ensures.visits;
-      others = rw active at told.1;
+      others = rw active at shown.none;
     }
