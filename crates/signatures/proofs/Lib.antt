@@ -3,6 +3,6 @@ pub mod Ascending
 pub mod Cuts
 pub mod Storing
 pub mod Joining
-pub mod Unions
+pub mod Uniting
 pub mod Marking
-pub mod Extensions
+pub mod ExtendedLists

@@ -1,7 +1,7 @@
 use Rattle.std.proofs.Common.{◌≡◌, length, arith, Some}
 use Rattle.std.proofs.lemmas.Bool.{both_ways}
 use Rattle.signatures.specs.Extensions.{parts_of}
-use Rattle.signatures.proofs.{Extensions.extra_skip, Extensions.extra_more, Cuts.halves_has}
+use Rattle.signatures.proofs.{ExtendedLists.extra_skip, ExtendedLists.extra_more, Cuts.halves_has}
 use Rattle.signatures.proofs.list_union.gather.Goals as goal
 
 pub loop-k-preserved-then-is_own : goal.loop-k-preserved-then-is_own

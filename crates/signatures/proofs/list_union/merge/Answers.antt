@@ -2,7 +2,7 @@ use Rattle.std.proofs.Common.{rules, ◌≡◌, length, arith, Some}
 use Rattle.std.specs.List.Sorted.{IsStrictlySortedBy}
 use Rattle.std.proofs.lemmas.Bool.{both_ways}
 use Rattle.signatures.specs.{Lists.pair_cmp, Lists.merged, Extensions.parts_of}
-use Rattle.signatures.proofs.Extensions.{extra_skip, extra_more}
+use Rattle.signatures.proofs.ExtendedLists.{extra_skip, extra_more}
 use Rattle.signatures.proofs.{Joining.or_swap, Ascending.merged_has, Ascending.merged_ascending}
 use Rattle.signatures.proofs.list_union.merge.Goals as goal
 

@@ -1,5 +1,5 @@
 use Rattle.std.proofs.Common.{rules}
-use Rattle.signatures.proofs.Extensions.{all_have, joined_all, joined_apart}
+use Rattle.signatures.proofs.ExtendedLists.{all_have, joined_all, joined_apart}
 use Rattle.signatures.proofs.list_union.union_of.Goals as goal
 
 pub returns-clause-extra : goal.returns-clause-extra

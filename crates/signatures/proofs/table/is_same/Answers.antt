@@ -1,6 +1,6 @@
 use Rattle.std.proofs.Common.{◌∙◌, ◌<◌, length, ap, sym, eq-eqb, eqb-true, arith}
 use Rattle.signatures.specs.{Lists.list_at, Extensions.parts_of}
-use Rattle.signatures.proofs.Extensions.{same_base, whole_is}
+use Rattle.signatures.proofs.ExtendedLists.{same_base, whole_is}
 use Rattle.signatures.proofs.table.is_same.Goals as goal
 
 pub returns-then-one-other-clause-same : goal.returns-then-one-other-clause-same

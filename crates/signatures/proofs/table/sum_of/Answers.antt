@@ -1,5 +1,5 @@
 use Rattle.std.proofs.Common.{rules}
-use Rattle.signatures.proofs.Unions.{fingerprint_merged}
+use Rattle.signatures.proofs.Uniting.{fingerprint_merged}
 use Rattle.signatures.proofs.table.sum_of.Goals as goal
 
 pub returns : goal.returns

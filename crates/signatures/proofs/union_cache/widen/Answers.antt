@@ -1,6 +1,6 @@
 use Rattle.std.proofs.Common.{rules}
 use Rattle.std.proofs.lemmas.List.Elements.{All-contains}
-use Rattle.signatures.proofs.Unions.{none_stored}
+use Rattle.signatures.proofs.Uniting.{none_stored}
 use Rattle.signatures.proofs.union_cache.widen.Goals as goal
 
 pub returns-clause-same : goal.returns-clause-same

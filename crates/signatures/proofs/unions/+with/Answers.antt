@@ -1,8 +1,8 @@
 use Rattle.std.proofs.Common.{rules, ◌≡◌, ◌∙◌, ℕ, [], arith}
 use Rattle.std.proofs.lemmas.Result.{IfOk-weaker}
 use Rattle.signatures.specs.Lists.{list_at, merged}
-use Rattle.signatures.proofs.Unions.{AreUnited, AreUnited-parts, parted_grown, parts_fewer, halved_long, unites_merged}
-use Rattle.signatures.proofs.{Unions.merged_fit, Joining.Grow-same, Cuts.parts_both, Ascending.merged_ascending}
+use Rattle.signatures.proofs.Uniting.{AreUnited, AreUnited-parts, parted_grown, parts_fewer, halved_long, unites_merged}
+use Rattle.signatures.proofs.{Uniting.merged_fit, Joining.Grow-same, Cuts.parts_both, Ascending.merged_ascending}
 use Rattle.signatures.proofs.unions.+with.Goals.{In_ok-above-in-Halved, After-deref}
 use Rattle.signatures.proofs.unions.+with.Goals as goal
 

@@ -1,5 +1,5 @@
 use Rattle.std.proofs.Common.{arith}
-use Rattle.signatures.proofs.Unions.{ends_halves, placed}
+use Rattle.signatures.proofs.Uniting.{ends_halves, placed}
 use Rattle.signatures.proofs.unions.pieces_of_both.Goals as goal
 
 pub returns : goal.returns

@@ -1,4 +1,4 @@
-use Rattle.signatures.proofs.{Cuts.ends_pairs, Unions.ends_halves, Unions.placed}
+use Rattle.signatures.proofs.{Cuts.ends_pairs, Uniting.ends_halves, Uniting.placed}
 use Rattle.signatures.proofs.unions.pieces_with_pairs.Goals as goal
 
 pub returns : goal.returns

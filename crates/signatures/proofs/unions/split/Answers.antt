@@ -1,7 +1,7 @@
 use Rattle.std.proofs.Common.{rules}
 use Rattle.signatures.specs.Lists.{list_at}
 use Rattle.signatures.proofs.Cuts.{all_under, all_over}
-use Rattle.signatures.proofs.Unions.{halved_cut, IsParted-under, IsParted-over}
+use Rattle.signatures.proofs.Uniting.{halved_cut, IsParted-under, IsParted-over}
 use Rattle.signatures.proofs.unions.split.Goals as goal
 
 -- Suppose that `cut` is a multiple of 2^bit, and that the numbers for all pairs of the list (`pair_value`) have the

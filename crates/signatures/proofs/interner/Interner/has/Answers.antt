@@ -1,6 +1,6 @@
 use Rattle.std.proofs.Common.{arith}
 use Rattle.signatures.specs.Extensions.{parts_of}
-use Rattle.signatures.proofs.Extensions.{has_either}
+use Rattle.signatures.proofs.ExtendedLists.{has_either}
 use Rattle.signatures.proofs.interner.Interner.has.Goals as goal
 
 pub returns-then-has : goal.returns-then-has

@@ -1,7 +1,7 @@
 use Rattle.std.proofs.Common.{◌∙◌, ◌⊎◌, ◌↔◌, Contains, ap, sym, subst}
 use Rattle.std.proofs.lemmas.Result.{IfOk-weaker}
 use Rattle.signatures.specs.Lists.{list_at, merged}
-use Rattle.signatures.proofs.Extensions.{AreExtended-grow, Grow-lists}
+use Rattle.signatures.proofs.ExtendedLists.{AreExtended-grow, Grow-lists}
 use Rattle.signatures.proofs.{Ascending.merged_has, Joining.Grow-twice, Joining.same_as}
 use Rattle.signatures.proofs.interner.Interner.join.Goals as goal
 

@@ -1,5 +1,5 @@
 use Rattle.std.proofs.Common.{◌-◌, length, arith}
-use Rattle.signatures.proofs.Extensions.{includes_all}
+use Rattle.signatures.proofs.ExtendedLists.{includes_all}
 use Rattle.signatures.proofs.interner.Interner.last_with_all.Goals as goal
 
 pub returns-then-has_pairs-clause-exactly : goal.returns-then-has_pairs-clause-exactly

@@ -1,6 +1,6 @@
 use Rattle.std.proofs.Common.{rules, ◌≡◌, ◌∙◌, ◌++◌, ◌∷◌, [], ap, refl}
 use Rattle.signatures.specs.{Hashed.mixed, Extensions.parts_of, Extensions.AreExtended}
-use Rattle.signatures.proofs.Extensions.{TableGrows-from, lists-grow, AreExtended-push, extended_some}
+use Rattle.signatures.proofs.ExtendedLists.{TableGrows-from, lists-grow, AreExtended-push, extended_some}
 use Rattle.signatures.proofs.{Joining.Grow-same, Storing.Grow-push}
 use Rattle.std.proofs.lemmas.List.{map-append}
 use Rattle.signatures.proofs.table.Table.intern.Goals.{In_ok-id-2}

@@ -1,7 +1,7 @@
 use Rattle.std.proofs.Common.{◌∙◌, ◌++◌, [], ap, arith}
 use Rattle.std.proofs.lemmas.Result.{on_ok_weaker, on_err_weaker}
 use Rattle.signatures.specs.Lists.{list_at, merged}
-use Rattle.signatures.proofs.{Cuts.parts_both, Ascending.append_both, Unions.halved_parted, Unions.merged_halves}
+use Rattle.signatures.proofs.{Cuts.parts_both, Ascending.append_both, Uniting.halved_parted, Uniting.merged_halves}
 use Rattle.signatures.proofs.trie.Trie.+append_with.Goals as goal
 
 pub append_with-requires : goal.append_with-requires

@@ -1,5 +1,5 @@
 use Rattle.std.proofs.Common.{arith}
-use Rattle.signatures.proofs.{Cuts.below_has, Cuts.above_has, Unions.halved_parted}
+use Rattle.signatures.proofs.{Cuts.below_has, Cuts.above_has, Uniting.halved_parted}
 use Rattle.signatures.proofs.trie.Trie.+has.Goals as goal
 
 pub returns-then-key-halves : goal.returns-then-key-halves

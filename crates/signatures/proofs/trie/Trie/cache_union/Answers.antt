@@ -1,4 +1,4 @@
-use Rattle.signatures.proofs.Unions.{AreUnions-store, IsUnion-in_order}
+use Rattle.signatures.proofs.Uniting.{AreUnions-store, IsUnion-in_order}
 use Rattle.signatures.proofs.trie.Trie.cache_union.Goals as goal
 
 pub invariant_of-self : goal.invariant_of-self

@@ -1,7 +1,7 @@
 use Rattle.std.proofs.Common.{subst}
 use Rattle.std.proofs.lemmas.Option.{IfSome_then}
 use Rattle.signatures.specs.Unions.{IsUnion}
-use Rattle.signatures.proofs.Unions.{IsUnion-in_order}
+use Rattle.signatures.proofs.Uniting.{IsUnion-in_order}
 use Rattle.signatures.proofs.trie.Trie.cached_union.Goals as goal
 
 pub returns : goal.returns

@@ -1,4 +1,4 @@
-use Rattle.signatures.proofs.Unions.{none_stored}
+use Rattle.signatures.proofs.Uniting.{none_stored}
 use Rattle.signatures.proofs.union_cache.UnionCache.clear.Goals as goal
 
 pub returns : goal.returns

@@ -1,5 +1,5 @@
 use Rattle.std.proofs.Common.{rules}
-use Rattle.signatures.proofs.Unions.{none_stored}
+use Rattle.signatures.proofs.Uniting.{none_stored}
 use Rattle.signatures.proofs.union_cache.UnionCache.new.Goals as goal
 
 pub returns : goal.returns

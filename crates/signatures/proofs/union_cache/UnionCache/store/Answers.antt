@@ -1,5 +1,5 @@
 use Rattle.std.proofs.Common.{arith}
-use Rattle.signatures.proofs.Unions.{written}
+use Rattle.signatures.proofs.Uniting.{written}
 use Rattle.signatures.proofs.union_cache.UnionCache.store.Goals as goal
 
 pub returns-in_err-widen : goal.returns-in_err-widen

@@ -20,7 +20,7 @@ use Rattle.signatures.specs.{declared.nodes.TheConstants.MOST_LISTS, declared.ta
 use Rattle.signatures.proofs.Joining.{Grow-same, SomeBelow, up_to_more}
 use Rattle.signatures.proofs.Storing.{map_same, list-old, list-new}
 use Rattle.signatures.proofs.Ascending.{merged_nil, merged_has, merged_ascending, ascending_unique, has_pair}
-use Rattle.signatures.proofs.{Ascending.pair_total, Ascending.pair_Decides, Unions.unites_is_merged}
+use Rattle.signatures.proofs.{Ascending.pair_total, Ascending.pair_Decides, Uniting.unites_is_merged}
 use Rattle.std_collections.proofs.SortedSets.{length_union}
 
 -- A list is stored in two parts: its base, which is a list of pairs that several lists can share, and its extra pairs,
