@@ -5,7 +5,7 @@
 -- each state of this component. The second half of the file is about the signature that any list of items represents.
 use Rattle.std.proofs.Common.{rules, ◌≡◌, ℕ, ◌+◌, ◌-◌, ◌<◌, ◌≤◌, List, [], ◌∷◌, length, drop, get_or, slice_index, sym}
 use Rattle.std.proofs.Common.{◌∙◌, subst, inl, inr, arith, Contains, get_or-drop, length-drop, ◌⊎◌, ◌↔◌, ◌++◌, take}
-use Rattle.std.proofs.Common.{nat_eq, refl, ap, eqb-true}
+use Rattle.std.proofs.Common.{nat_eq, refl, eqb-true}
 use Rattle.std.proofs.lemmas.List.Elements.{Contains-append_left, Contains-get_or, Contains-push, Contains-push_cases}
 use Rattle.std.proofs.lemmas.List.Sorted.{Contains-permutation, IsPermutation-sym}
 use Rattle.std.proofs.lemmas.{Grind.common_steps, Grind.elements, List.get_or_default, List.take_more, Cmp.nat_eq_equiv}
