@@ -1,12 +1,11 @@
 -- Every input denotes exactly one system, or has exactly one first error, which is the error that is reported. No input
 -- denotes a system and has a first error.
 use Rattle.std.proofs.Common.{◌≡◌, ◌⊎◌, ⊎_elim, ℕ, ◌+◌, ◌≤◌, List, [], ◌∷◌, ◌++◌, length, refl, sym, ◌∙◌, subst, inl}
-use Rattle.std.proofs.Common.{inr, arith, All, rules}
+use Rattle.std.proofs.Common.{inr, arith, rules}
 use Rattle.std.specs.List.{AllZip}
 use Rattle.std.proofs.lemmas.Bool.{cases_lt}
 use Rattle.std.proofs.lemmas.List.{append-nil}
-use Rattle.std.proofs.lemmas.List.Elements.{All-nil, All-cons, All-head, All-tail}
-use Rattle.theory.specs.System.{System, Transition, IsAmong}
+use Rattle.theory.specs.System.{System, Transition}
 use Rattle.autfmt.specs.declared.fault.Fault.{Fault}
 use Rattle.autfmt.specs.declared.fault.Fault.TheVariants.{BadHeader, ExtraText}
 use Rattle.autfmt.specs.Bounds.{Bounds}
@@ -18,24 +17,6 @@ use Rattle.autfmt.proofs.Lists.{AllZip-unique}
 use Rattle.autfmt.proofs.FirstFaults.{Stops, Divided, divided, one_front}
 use Rattle.autfmt.proofs.LineFaults.{HeaderFault-unique, GoodHeader-no_fault, GoodHeader-unique, header_judged}
 use Rattle.autfmt.proofs.LineFaults.{EdgeFault-unique, GoodEdge-no_fault, edge_judged, same_header}
-
--- Suppose that each line in a list denotes a transition, and that the sources and targets of all these transitions are
--- less than n. Then these lines denote transitions of a system with n states.
-pub spelled_among :
-    (n : ℕ) (lines : List (List ℕ)) (es : List Transition) → AllZip SpellsTransition lines es → All (IsAmong n) es →
-    AllZip (SpellsAmong n) lines es
-spelled_among n [] [] spelled among = tt
-spelled_among n (line ∷ lines) (e ∷ es) spelled among =
-    ((spelled.0, All-head (IsAmong n) e es among), spelled_among n lines es spelled.1 (All-tail (IsAmong n) e es among))
-spelled_among n lines es spelled among = grind arith
-
-among_spelled : (n : ℕ) (lines : List (List ℕ)) (es : List Transition) → AllZip (SpellsAmong n) lines es →
-    AllZip SpellsTransition lines es × All (IsAmong n) es
-among_spelled n [] [] good = (tt, All-nil (IsAmong n))
-among_spelled n (line ∷ lines) (e ∷ es) good =
-    let others = among_spelled n lines es good.1 in
-    ((good.0.0, others.0), All-cons (IsAmong n) e es good.0.1 others.1)
-among_spelled n lines es good = absurd good
 
 -- Suppose that the header of an input declares m transitions, that correct transitions follow the header, and that the
 -- list `others` contains the lines after these transitions. Suppose also that `fault` is the error that comes next
@@ -120,8 +101,9 @@ Reads-unique bounds text A B a b =
     subst (λ (h : List ℕ). GoodHeader bounds h B.first (length B.transitions) B.states) header b.good in
     let u = GoodHeader-unique bounds a.header A.first _ A.states B.first _ B.states a.good good in
     let transitions =
-    AllZip-unique SpellsTransition one_spelled a.lines A.transitions B.transitions a.spelled
-    (subst (λ (ls : List (List ℕ)). AllZip SpellsTransition ls B.transitions) lines b.spelled) in
+    AllZip-unique (SpellsAmong A.states) (SpellsAmong B.states) (λ line d e h k. one_spelled line d e h.0 k.0) a.lines
+    A.transitions B.transitions a.spelled
+    (subst (λ (ls : List (List ℕ)). AllZip (SpellsAmong B.states) ls B.transitions) lines b.spelled) in
     λ i. record { first = u.0 i; states = u.2 i; transitions = transitions i }
 
 -- If an input denotes a system, the input has no error (`FirstFault`).
@@ -142,7 +124,7 @@ Reads-no_fault bounds text A fault r first =
         let stops = next_stops (length all) A.states (length es) others fault bad.1 in
         let front =
         one_front (SpellsAmong A.states) (length all) 0 r.lines lines [] others all es (length all) (length es)
-        (append-nil r.lines ∙ e) (spelled_among A.states r.lines all r.spelled r.system.transitions) bad.0
+        (append-nil r.lines ∙ e) r.spelled bad.0
         (omega arith) (omega arith) (omega arith) stops.0 tt stops.1 in
         grind (arith, all, A.states)
 
@@ -152,7 +134,13 @@ pub Reads-from_lines :
     (bounds : Bounds) (text line : List ℕ) (lines : List (List ℕ)) (f m n : ℕ) (es : List Transition) →
     Lines text (line ∷ lines) → GoodHeader bounds line f m n → AllZip (SpellsAmong n) lines es → length es ≡ m →
     Reads bounds text (record { first = f; states = n; transitions = es })
-Reads-from_lines bounds text line lines f m n es l g good count = grind (arith, among_spelled, header, g.first)
+Reads-from_lines bounds text line lines f m n es l g good count = record {
+  header = line;
+  lines = lines;
+  whole = l;
+  good = subst (λ (k : ℕ). GoodHeader bounds line f k n) (sym count) g;
+  spelled = good;
+}
 
 -- It is decidable whether a line denotes a transition whose source and target are less than the number n
 -- (`SpellsAmong`).

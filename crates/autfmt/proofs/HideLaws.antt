@@ -95,7 +95,7 @@ FirstHideFault-unique text f g a b =
 pub HideReads-unique : (text : List ℕ) (H H' : List (List ℕ)) → HideReads text H → HideReads text H' → H ≡ H'
 HideReads-unique text H H' a b =
     let same = sym b.1 ∙ a.1 in
-    AllZip-unique Hides (λ line x y h k. one_hide_line line x y h.1 k.1) a.0 H H' a.3
+    AllZip-unique Hides Hides (λ line x y h k. one_hide_line line x y h.1 k.1) a.0 H H' a.3
     (subst (λ (lines : List (List ℕ)). AllZip Hides lines H') same b.3)
 
 -- If a text can be read as a hide list (a file with one label to hide on each line), then the text has no error

@@ -30,14 +30,16 @@ AllZip-firsts R P each [] ys zipped = All-nil P
 AllZip-firsts R P each (a ∷ xs) [] zipped = absurd zipped
 AllZip-firsts R P each (a ∷ xs) (b ∷ ys) zipped = search (rules, All-cons, (AllZip-firsts R P each xs ys zipped.1))
 
--- Suppose that the relation R relates each element to at most one element. Then R relates each list, element by
--- element, to at most one list.
+-- Suppose that two elements are equal if the relation R relates an element to the first of them, and the relation S
+-- relates the same element to the second of them. Suppose also that R relates a list, element by element, to the list
+-- ys, and that S relates the same list to the list zs. Then ys and zs are equal.
 pub AllZip-unique :
-    {A B : Type 0} (R : A → B → Type 0) → ((x : A) (y z : B) → R x y → R x z → y ≡ z) → (xs : List A) (ys zs : List B) →
-    AllZip R xs ys → AllZip R xs zs → ys ≡ zs
-AllZip-unique R one [] [] [] a b = refl
-AllZip-unique R one (x ∷ xs) (y ∷ ys) (z ∷ zs) a b = ap₂ ◌∷◌ (one x y z a.0 b.0) (AllZip-unique R one xs ys zs a.1 b.1)
-AllZip-unique R one xs ys zs a b = grind arith
+    {A B : Type 0} (R S : A → B → Type 0) → ((x : A) (y z : B) → R x y → S x z → y ≡ z) →
+    (xs : List A) (ys zs : List B) → AllZip R xs ys → AllZip S xs zs → ys ≡ zs
+AllZip-unique R S one [] [] [] a b = refl
+AllZip-unique R S one (x ∷ xs) (y ∷ ys) (z ∷ zs) a b =
+    ap₂ ◌∷◌ (one x y z a.0 b.0) (AllZip-unique R S one xs ys zs a.1 b.1)
+AllZip-unique R S one xs ys zs a b = grind arith
 
 -- Suppose that a list consists of the list xs, the element x and the list ys, and that all elements of the list have
 -- the property P. Then x has the property P.

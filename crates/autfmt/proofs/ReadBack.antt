@@ -1,6 +1,6 @@
 -- The text that is written for a system can be read again. The result is the same system, with its transitions in the
 -- order in which they are written.
-use Rattle.std.proofs.Common.{◌≡◌, ℕ, rules, ◌+◌, ◌<◌, ◌≤◌, ◌^◌, List, [], ◌∷◌, ◌++◌, length, map, codes, decimal}
+use Rattle.std.proofs.Common.{◌≡◌, ℕ, rules, ◌<◌, ◌≤◌, ◌^◌, List, [], ◌∷◌, ◌++◌, length, map, codes, decimal}
 use Rattle.std.proofs.Common.{All, refl, ap, ◌∙◌, subst, inl, arith, append_assoc, length-append}
 use Rattle.std.proofs.lemmas.Grind.{common_steps}
 use Rattle.std.specs.List.{AllZip, AllByRecursion, flat_map}
@@ -16,7 +16,7 @@ use Rattle.autfmt.proofs.Labels.{IsLabel-spelled}
 use Rattle.autfmt.proofs.Lines.{Header-one, TransitionLine-one}
 use Rattle.autfmt.proofs.Lists.{AllZip-firsts}
 use Rattle.autfmt.specs.Grammar.{Blanks, Spaced, Label, Header}
-use Rattle.autfmt.specs.Texts.{lines_of, Lines, IsOneLine, IsShort, SpellsTransition, Reads}
+use Rattle.autfmt.specs.Texts.{lines_of, Lines, IsOneLine, IsShort, SpellsAmong, Reads}
 use Rattle.autfmt.specs.Written.{written_label, header_of, written_transition, listed, IsInWrittenOrder}
 
 abbrev header_line : System → List ℕ
@@ -100,7 +100,7 @@ header_line-short A first transitions states =
     let s = length-decimal-le 10 A.states (omega arith) states (omega arith) in
     simp length-append (omega arith)
 
-spells_transition : (n : ℕ) → n < 10 ^ 10 → (e : Transition) → IsAmong n e → SpellsTransition (transition_line e) e
+spells_transition : (n : ℕ) → n < 10 ^ 10 → (e : Transition) → IsAmong n e → SpellsAmong n (transition_line e) e
 spells_transition n small e among =
     let blank = codes " " in
     let spaced =
@@ -112,10 +112,10 @@ spells_transition n small e among =
     let short = subst IsShort (append-nil (transition_line e))
     (spelled_line-short e.source e.target blank blank [] (written_label e.label) e.label source target (omega arith)
     (omega arith) (omega arith) spelling) in
-    (short, (_, _, _, (source, refl), spelling, (target, refl), whole))
+    ((short, (_, _, _, (source, refl), spelling, (target, refl), whole)), among)
 
 spells_transitions : (n : ℕ) → n < 10 ^ 10 → (es : List Transition) → AllByRecursion (IsAmong n) es →
-    AllZip SpellsTransition (map transition_line es) es
+    AllZip (SpellsAmong n) (map transition_line es) es
 spells_transitions n small [] among = tt
 spells_transitions n small (e ∷ es) among =
     (spells_transition n small e among.0, spells_transitions n small es among.1)
@@ -157,11 +157,11 @@ small_in_file bounds B within system states transitions = search rules
 
 -- The lines of the text that is written for a system are the header and one line for each transition.
 listed_whole : (B : System) → Header (header_line B) B.first (length B.transitions) B.states →
-    AllZip SpellsTransition (map transition_line B.transitions) B.transitions →
+    AllZip (SpellsAmong B.states) (map transition_line B.transitions) B.transitions →
     Lines (listed B) (header_line B ∷ map transition_line B.transitions)
 listed_whole B header spelled =
-    let lines = AllZip-firsts SpellsTransition IsOneLine
-    (λ line e s. TransitionLine-one line e.source e.label e.target s.1) _ B.transitions spelled in
+    let lines = AllZip-firsts (SpellsAmong B.states) IsOneLine
+    (λ line e s. TransitionLine-one line e.source e.label e.target s.0.1) _ B.transitions spelled in
     lines_of-written_line (header_of B.first (length B.transitions) B.states) (header_line B) _ (header_and_feed B)
     (Header-one _ _ _ _ header) ∙ ap (λ (ls : List (List ℕ)). header_line B ∷ ls) (lines_of-written B.transitions lines)
 
@@ -188,7 +188,6 @@ listed_reads bounds B within system states transitions =
         transitions = transitions;
       };
       spelled = spelled;
-      system = system;
     }
 
 pub text_is_read_again : (bounds : Bounds) (A B : System) → IsWithinFile bounds → IsSystem A → A.states ≤ bounds.states

@@ -1,7 +1,7 @@
 -- This file defines the lines of an input, and the system that an input denotes.
 use Rattle.std.specs.Prelude.{◌≡◌, ◌≢◌, ℕ, ◌<◌, ◌≤◌, ◌==◌, List, [], ◌∷◌, length, if◌then◌else◌}
 use Rattle.std.specs.List.{All, AllZip, onto_first}
-use Rattle.theory.specs.System.{System, Transition, IsAmong, IsSystem}
+use Rattle.theory.specs.System.{System, Transition, IsAmong}
 use Rattle.autfmt.specs.declared.line.TheConstants.{LONGEST_LINE}
 use Rattle.autfmt.specs.Bounds.{Bounds}
 use Rattle.autfmt.specs.Grammar.{Header, TransitionLine}
@@ -48,12 +48,12 @@ SpellsAmong n line e = SpellsTransition line e × IsAmong n e
 
 -- `Reads bounds text A` holds if the text denotes the system A. The first line of the text is a header, which declares
 -- the first state of A, the number of its transitions and the number of its states. These numbers are within the limits
--- `bounds`. Each further line denotes one transition of A, in the order in which A lists its transitions. The system A
--- must be well-formed (`IsSystem`).
+-- `bounds`. Each further line denotes one transition of A, in the order in which A lists its transitions. The label of
+-- each transition must be valid, and the first state, the sources and the targets must be states of A. So A is
+-- well-formed.
 pub record Reads (bounds : Bounds) (text : List ℕ) (A : System) : Type 0 where
   pub header : List ℕ
   pub lines : List (List ℕ)
   pub whole : Lines text (header ∷ lines)
   pub good : GoodHeader bounds header A.first (length A.transitions) A.states
-  pub spelled : AllZip SpellsTransition lines A.transitions
-  pub system : IsSystem A
+  pub spelled : AllZip (SpellsAmong A.states) lines A.transitions
