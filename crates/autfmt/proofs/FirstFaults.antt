@@ -1,19 +1,19 @@
--- The lemmas in this file are about the first incorrect line of an input, which is a system or a hide list (a file with
--- the labels to hide). In these lemmas, the relation `Good` relates a correct line to the transition or the label on
--- this line. The number `most` is the largest number of such lines that is allowed.
-use Rattle.std.proofs.Common.{◌≡◌, ◌≢◌, ◌⊎◌, ◌↔◌, ⊎_elim, ℕ, ◌+◌, ◌<◌, ◌≤◌, List, [], ◌∷◌, ◌++◌, length, replicate, All}
-use Rattle.std.proofs.Common.{refl, sym, ◌∙◌, ap, subst, inl, inr, arith}
+-- The lemmas in this file are about the first error of an input (`FaultFrom`), which is a system or a hide list (a file
+-- with the labels to hide). In these lemmas, the relation `Good` relates a correct line to the transition or the label
+-- on this line.
+use Rattle.std.proofs.Common.{◌≡◌, ◌≢◌, ◌⊎◌, ◌↔◌, ⊎_elim, ℕ, ◌+◌, ◌<◌, ◌≤◌, List, [], ◌∷◌, ◌++◌, length, replicate}
+use Rattle.std.proofs.Common.{All, refl, sym, ◌∙◌, ap, subst, inl, inr, arith}
 use Rattle.std.specs.List.{AllZip}
 use Rattle.std.proofs.lemmas.Bool.{cases_lt}
-use Rattle.std.proofs.lemmas.List.{append-nil, length-append, length-replicate}
-use Rattle.std.proofs.lemmas.List.Elements.{All-nil, All-cons, All-append, All-replicate}
+use Rattle.std.proofs.lemmas.List.{append_assoc, append-nil, length-append, length-replicate}
+use Rattle.std.proofs.lemmas.List.Elements.{All-nil, All-cons, All-head, All-tail, All-append, All-replicate}
 use Rattle.autfmt.specs.declared.fault.Fault.{Fault}
 use Rattle.autfmt.specs.declared.fault.Fault.TheVariants.{LineTooLong}
 use Rattle.autfmt.specs.declared.line.TheConstants.{LONGEST_LINE}
 use Rattle.autfmt.specs.Texts.{lines_of, Lines, IsOneLine, IsShort}
+use Rattle.autfmt.specs.Faults.{NextFault, FaultFrom}
 use Rattle.autfmt.specs.Cutter.{IsPart}
-use Rattle.autfmt.proofs.Lists.{All-between}
-use Rattle.autfmt.proofs.Cutting.{only_line, Divides}
+use Rattle.autfmt.proofs.Cutting.{only_line, Divides, Divides-end, line_grows}
 
 -- Suppose that an input can be read or has an error, and that it has no error if it can be read. Then the input can be
 -- read if and only if it has no error.
@@ -21,96 +21,146 @@ pub without_fault : {X : Type 0} (P : Fault → Type 0) → X ⊎ ((f : Fault) �
     ((f : Fault) → ¬ P f) ↔ X
 without_fault P one not_both = (λ none. ⊎_elim (λ x. x) (λ bad. absurd (none bad.0 bad.1)) one, not_both)
 
-module _ {X : Type 0} (Good : List ℕ → X → Type 0) (most : ℕ) where
-  -- `Stops found lines` holds if reading stops after `found` correct lines, and `lines` are the lines that follow.
-  -- There are three possible reasons: there is no further line, no further line is allowed, or the next line is
-  -- incorrect.
-  abbrev pub Stops : ℕ → List (List ℕ) → Type 0
-  Stops found [] = Unit
-  Stops found (line ∷ others) = found < most → (x : X) → ¬ Good line x
+-- `AreJudged Good Bad extra Lack` holds if each line is either correct (`Good`) or has exactly one error (`Bad`), and
+-- if there is at most one error of an input that ends too early (`Lack`). The error `LineTooLong` must be the error of
+-- a line only if the line is too long, and must remain its error if further bytes are appended to the line. The error
+-- of a line that is not allowed (`extra`) and the error of an input that ends too early must not be `LineTooLong`.
+pub record AreJudged {X : Type 0} (Good : List ℕ → X → Type 0) (Bad : ℕ → List ℕ → Fault → Type 0)
+    (extra : ℕ → Fault) (Lack : ℕ → Fault → Type 0) : Type 0 where
+  pub one : (found : ℕ) (line : List ℕ) (f g : Fault) → Bad found line f → Bad found line g → f ≡ g
+  pub apart : (found : ℕ) (line : List ℕ) (x : X) (f : Fault) → Good line x → Bad found line f → ⊥
+  pub judged : (found : ℕ) (line : List ℕ) → ((x : X) × Good line x) ⊎ ((f : Fault) × Bad found line f)
+  pub long : (found : ℕ) (line : List ℕ) (k : ℕ) → Bad found line (LineTooLong k) →
+      (LONGEST_LINE < length line) × ((tail : List ℕ) → Bad found (line ++ tail) (LineTooLong k))
+  pub extra_long : (found k : ℕ) → extra found ≡ LineTooLong k → ⊥
+  pub one_lack : (found : ℕ) (f g : Fault) → Lack found f → Lack found g → f ≡ g
+  pub lacks : (found : ℕ) → ((f : Fault) × Lack found f) ⊎ ((f : Fault) → Lack found f → ⊥)
+  pub lack_long : (found k : ℕ) → Lack found (LineTooLong k) → ⊥
 
-  -- If the next line is correct and allowed, then reading does not stop before this line.
-  goes_on : (found : ℕ) (front lines others : List (List ℕ)) (line : List ℕ) (x : X) → found < most → Good line x →
-      front ≡ line ∷ lines ++ others → Stops found front → ⊥
-  goes_on found front lines others line x less good e stops = grind arith
+-- Assume that each line is either correct or has exactly one error, and that at most `most` lines are allowed.
+module _ {X : Type 0} {Good : List ℕ → X → Type 0} {Bad : ℕ → List ℕ → Fault → Type 0} {extra : ℕ → Fault}
+    {Lack : ℕ → Fault → Type 0} (law : AreJudged Good Bad extra Lack) (most : ℕ) where
+  abbrev pub Next : ℕ → List ℕ → Fault → Type 0
+  Next = NextFault most Bad extra
 
-  -- Suppose that a list of lines is divided into two parts, such that each line of the first part is correct and
-  -- allowed, and reading stops before the second part. Then there is no other way to divide the list into two such
-  -- parts.
-  pub one_front : (found : ℕ) (lines lines' others others' : List (List ℕ)) (xs ys : List X) (i j : ℕ) →
-      lines ++ others ≡ lines' ++ others' →
-      AllZip Good lines xs → AllZip Good lines' ys → i ≡ found + length xs → j ≡ found + length ys →
-      i ≤ most → j ≤ most → Stops i others → Stops j others' → (i ≡ j) × (others ≡ others')
-  one_front found [] [] others others' [] [] i j e a b p q few few' s s' = (omega arith, e)
-  one_front found (l ∷ lines) (l' ∷ lines') others others' (x ∷ xs) (y ∷ ys) i j e a b p q few few' s s' =
-      let tail : lines ++ others ≡ lines' ++ others' = cc in
-      one_front (found + 1) lines lines' others others' xs ys i j tail a.1 b.1 (omega arith) (omega arith) few few' s s'
-  one_front found lines lines' others others' xs ys i j e a b p q few few' s s' = grind arith
+  -- `First found lines f` holds if f is the first error in the lines `lines`, which follow `found` correct lines.
+  abbrev pub First : ℕ → List (List ℕ) → Fault → Type 0
+  First = FaultFrom Next Lack
 
-  -- `Divided found all` holds if the list of lines `all` can be divided into two parts. The lines of the first part are
-  -- correct, and reading stops before the second part. The number `found` counts the correct lines before the list
-  -- `all`.
-  pub record Divided (found : ℕ) (all : List (List ℕ)) : Type 0 where
-    pub lines : List (List ℕ)
-    pub others : List (List ℕ)
-    pub xs : List X
-    pub whole : all ≡ lines ++ others
-    pub good : AllZip Good lines xs
-    pub behind : (i : ℕ) → i ≡ found + length xs → (i ≤ most) × Stops i others
+  next_unique : (found : ℕ) (line : List ℕ) (f g : Fault) → Next found line f → Next found line g → f ≡ g
+  next_unique found line f g (inl a) (inl b) = law.one found line f g a.1 b.1
+  next_unique found line f g (inl (less, a)) (inr (full, b)) = absurd (omega arith)
+  next_unique found line f g (inr (full, a)) (inl (less, b)) = absurd (omega arith)
+  next_unique found line f g (inr a) (inr b) = a.1 ∙ sym b.1
 
-  pub divided : ((line : List ℕ) → ((x : X) × Good line x) ⊎ ((x : X) → ¬ Good line x)) →
-      (found : ℕ) (all : List (List ℕ)) → found ≤ most → Divided found all
-  divided decide found [] few =
-      record { lines = []; others = []; xs = []; whole = refl; good = tt; behind = λ i e. (omega arith, tt) }
-  divided decide found (line ∷ all) few =
-      step (λ (less : found < most). divided decide (found + 1) all (omega arith)) (cases_lt found most) (decide line)
-    where
-      stop : (found < most → (x : X) → ¬ Good line x) → Divided found (line ∷ all)
-      stop bad = record {
-        lines = [];
-        others = line ∷ all;
-        xs = [];
-        whole = refl;
-        good = tt;
-        behind = λ i e. (omega arith, λ less x good. bad (omega arith) x good);
-      }
+  -- Lines have at most one first error.
+  pub unique : (found : ℕ) (lines : List (List ℕ)) (f g : Fault) → First found lines f → First found lines g → f ≡ g
+  unique found [] f g a b = law.one_lack found f g a b
+  unique found (line ∷ others) f g (inl a) (inl b) = next_unique found line f g a b
+  unique found (line ∷ others) f g (inl a) (inr (none, b)) = absurd (none f a)
+  unique found (line ∷ others) f g (inr (none, a)) (inl b) = absurd (none g b)
+  unique found (line ∷ others) f g (inr (none, a)) (inr (none', b)) = unique (found + 1) others f g a b
 
-      more : (x : X) → Good line x → Divided (found + 1) all → Divided found (line ∷ all)
-      more x good d = record {
-        lines = line ∷ d.lines;
-        others = d.others;
-        xs = x ∷ d.xs;
-        whole = ap (λ (ls : List (List ℕ)). line ∷ ls) d.whole;
-        good = (good, d.good);
-        behind = λ i e. d.behind i (omega arith);
-      }
+  next_good : (found : ℕ) (line : List ℕ) (x : X) → found < most → Good line x → (f : Fault) → Next found line f → ⊥
+  next_good found line x less good f (inl bad) = law.apart found line x f good bad.1
+  next_good found line x less good f (inr (full, e)) = omega arith
 
-      step : (found < most → Divided (found + 1) all) → (found < most) ⊎ (most ≤ found) →
-          ((x : X) × Good line x) ⊎ ((x : X) → ¬ Good line x) → Divided found (line ∷ all)
-      step rest (inr full) one = stop (λ less. absurd (omega arith))
-      step rest (inl less) (inr bad) = stop (λ _. bad)
-      step rest (inl less) (inl (x, good)) = more x good (rest less)
+  -- If correct lines that are allowed are put in front of lines, the first error remains the same.
+  pub behind : (found i : ℕ) (front others : List (List ℕ)) (xs : List X) (f : Fault) → AllZip Good front xs →
+      i ≡ found + length xs → i ≤ most → First found (front ++ others) f ↔ First i others f
+  behind found i [] others [] f good e few =
+      let same : found ≡ i = omega arith in
+      subst (λ (k : ℕ). First found others f ↔ First k others f) same (λ h. h, λ h. h)
+  behind found i (line ∷ front) others (x ∷ xs) f good e few =
+      let none = next_good found line x (omega arith) good.0 in
+      let next = behind (found + 1) i front others xs f good.1 (omega arith) few in
+      (⊎_elim (λ bad. absurd (none f bad)) (λ h. next.0 h.1), λ h. inr (none, next.1 h))
+  behind found i front others xs f good e few = absurd good
 
--- `HasLongLine text` holds if the text contains a line of more than 8192 bytes (`LONGEST_LINE`), which is too long.
-abbrev pub HasLongLine : List ℕ → Type 0
-HasLongLine text = (front others : List (List ℕ)) × (line : List ℕ) × Lines text (front ++ line ∷ others)
-    × (LONGEST_LINE < length line)
+  -- `AreAllGood found lines xs` holds if all lines are correct and allowed, and if an input may end after them. The
+  -- list xs contains the transitions or labels on these lines, which follow `found` correct lines.
+  abbrev pub AreAllGood : ℕ → List (List ℕ) → List X → Type 0
+  AreAllGood found lines xs =
+      AllZip Good lines xs × (i : ℕ) × (i ≡ found + length xs) × (i ≤ most) × ((f : Fault) → Lack i f → ⊥)
 
--- Suppose that each text has at most one first error (`First`), and that this error is `LineTooLong` only if the text
--- contains a line that is too long. Let `given` be the bytes that have been read so far. Suppose that these bytes
--- consist of the lines `ended`, none of which is too long, and of the bytes `rest`, which can be a part of the next
--- line (`IsPart`). Suppose also that `LineTooLong k` is the first error of each text that consists of the lines `ended`
--- and one further line that is too long. Then the bytes `given` do not determine the first error of the whole input. If
--- further bytes make the last line too long, the first error is `LineTooLong k`. If no bytes follow, there is no error
--- or another first error.
+  -- If all lines are correct and allowed, and an input may end after them, then these lines have no first error.
+  pub no_fault : (lines : List (List ℕ)) (xs : List X) (f : Fault) → AreAllGood 0 lines xs → First 0 lines f → ⊥
+  no_fault lines xs f (good, i, e, few, none) bad =
+      none f ((behind 0 i lines [] xs f good e few).0 (rw append-nil bad))
+
+  -- Either all lines are correct and allowed, and an input may end after them, or the lines have a first error.
+  pub lines_judged : (found : ℕ) (lines : List (List ℕ)) → found ≤ most →
+      ((xs : List X) × AreAllGood found lines xs) ⊎ ((f : Fault) × First found lines f)
+  lines_judged found [] few = elim (law.lacks found) [
+    | inl lack ↦ inr lack
+    | inr none ↦ inl ([], (tt, found, omega arith, few, none))
+  ]
+  lines_judged found (line ∷ others) few = elim (cases_lt found most) [
+    | inr full ↦ inr (extra found, inl (inr (full, refl)))
+    | inl less ↦ elim (law.judged found line) [
+      | inr (f, bad) ↦ inr (f, inl (inl (less, bad)))
+      | inl (x, good) ↦ elim (lines_judged (found + 1) others (omega arith)) [
+        | inr (f, bad) ↦ inr (f, inr (next_good found line x less good, bad))
+        | inl (xs, (each, i, e, within, none)) ↦ inl (x ∷ xs, ((good, each), i, omega arith, within, none))
+      ]
+    ]
+  ]
+
+  -- If no line is too long, then the first error is not `LineTooLong`.
+  pub no_long : (found : ℕ) (lines : List (List ℕ)) (k : ℕ) → All IsShort lines → First found lines (LineTooLong k) → ⊥
+  no_long found [] k short bad = law.lack_long found k bad
+  no_long found (line ∷ others) k short (inl (inl (less, bad))) =
+      omega (arith, (law.long found line k bad).0, All-head IsShort line others short)
+  no_long found (line ∷ others) k short (inl (inr (full, e))) = law.extra_long found k (sym e)
+  no_long found (line ∷ others) k short (inr (none, bad)) =
+      no_long (found + 1) others k (All-tail IsShort line others short) bad
+
+  -- Suppose that lines have a first error, which is not that the input ends too early. Then this error remains the
+  -- first error if further lines follow.
+  pub stays_before : (found : ℕ) (lines more : List (List ℕ)) (f : Fault) → ((i : ℕ) → Lack i f → ⊥) →
+      First found lines f → First found (lines ++ more) f
+  stays_before found [] more f some bad = absurd (some found bad)
+  stays_before found (line ∷ others) more f some (inl bad) = inl bad
+  stays_before found (line ∷ others) more f some (inr (none, bad)) =
+      inr (none, stays_before (found + 1) others more f some bad)
+
+  -- Suppose that the text `given` consists of the lines `front` and `lines`, and that f is the first error in `lines`.
+  -- Suppose also that f is not the error that the input ends too early, and that f remains the error of a line if
+  -- further bytes are appended to the line. If the bytes `more` are appended to the text, then the text consists of the
+  -- lines `front` and of lines in which f is the first error.
+  pub stays : (given more : List ℕ) (f : Fault) → ((i : ℕ) → Lack i f → ⊥) →
+      ((i : ℕ) (line tail : List ℕ) → Bad i line f → Bad i (line ++ tail) f) →
+      (found : ℕ) (front lines : List (List ℕ)) → Lines given (front ++ lines) → First found lines f →
+      (lines' : List (List ℕ)) × Lines (given ++ more) (front ++ lines') × First found lines' f
+  stays given more f some longer found front [] l bad = absurd (some found bad)
+  stays given more f some longer found front (line ∷ others) l (inl bad) =
+      let (tail, others', l') = line_grows given more front others line l in
+      ((line ++ tail) ∷ others', l', inl (⊎_elim (λ b. inl (b.0, longer found line tail b.1)) (λ b. inr b) bad))
+  stays given more f some longer found front (line ∷ others) l (inr (none, bad)) =
+      let next = l ∙ sym (append_assoc front (line ∷ []) others) in
+      let (others', l', bad') = stays given more f some longer (found + 1) (front ++ line ∷ []) others next bad in
+      (line ∷ others', l' ∙ append_assoc front (line ∷ []) others', inr (none, bad'))
+
+-- Suppose that lines have at most one first error (`HasFirst`), and that this error is `LineTooLong` only if some line
+-- is too long. Let `given` be the bytes that have been read so far. Suppose that these bytes consist of the lines
+-- `ended`, none of which is too long, and of the bytes `rest`, which can be a part of the next line (`IsPart`). Suppose
+-- also that one of two conditions holds. Either `LineTooLong` is the first error of the lines `ended` and one further
+-- line that is too long, or there are no bytes of the next line and the lines `ended` have no error. Then the bytes
+-- `given` do not determine the first error of the whole input. If the first condition holds and further bytes make the
+-- last line too long, the first error is `LineTooLong`. If no bytes follow, there is no error or another first error.
 pub not_known :
-    (First : List ℕ → Fault → Type 0) → ((text : List ℕ) (f g : Fault) → First text f → First text g → f ≡ g) →
-    ((text : List ℕ) (k : ℕ) → First text (LineTooLong k) → HasLongLine text) →
-    (given : List ℕ) (ended : List (List ℕ)) (rest : List ℕ) (k : ℕ) → Divides given ended rest →
-    All IsShort ended → IsPart rest →
-    ((line : List ℕ) → LONGEST_LINE < length line → (text : List ℕ) → Lines text (ended ++ line ∷ []) →
-    First text (LineTooLong k)) → (fault : Fault) → ((more : List ℕ) → First (given ++ more) fault) → ⊥
-not_known First unique long given ended rest k cut shorts part too_long fault known =
+    (HasFirst : List (List ℕ) → Fault → Type 0) →
+    ((lines : List (List ℕ)) (f g : Fault) → HasFirst lines f → HasFirst lines g → f ≡ g) →
+    ((lines : List (List ℕ)) (k : ℕ) → All IsShort lines → HasFirst lines (LineTooLong k) → ⊥) →
+    (given : List ℕ) (ended : List (List ℕ)) (rest : List ℕ) → Divides given ended rest → All IsShort ended →
+    IsPart rest →
+    ((k : ℕ) × ((line : List ℕ) → LONGEST_LINE < length line → HasFirst (ended ++ line ∷ []) (LineTooLong k)))
+    ⊎ ((length rest ≡ 0) × ((f : Fault) → HasFirst ended f → ⊥)) →
+    (fault : Fault) → ((more : List ℕ) → HasFirst (lines_of (given ++ more)) fault) → ⊥
+not_known HasFirst unique no_long given ended rest divides shorts part (inr (none, whole)) fault known =
+    whole fault (subst (λ (ls : List (List ℕ)). HasFirst ls fault) (Divides-end given ended rest divides none)
+    (known []))
+not_known HasFirst unique no_long given ended rest divides shorts part (inl (k, too_long)) fault known =
     against (replicate (LONGEST_LINE + 1) 0) refl
   where
     last : (bytes : List ℕ) → IsPart bytes → All IsShort (lines_of bytes)
@@ -124,12 +174,11 @@ not_known First unique long given ended rest k cut shorts part too_long fault kn
         let one : IsOneLine more =
         subst IsOneLine (sym is) (All-replicate (λ b. b ≢ 10) (LONGEST_LINE + 1) 0 (λ e. absurd (omega arith))) in
         let longer = length-append rest more in
-        let l = cut more ∙ ap (λ (ls : List (List ℕ)). ended ++ ls)
+        let l = divides more ∙ ap (λ (ls : List (List ℕ)). ended ++ ls)
         (only_line (rest ++ more) (All-append (λ b. b ≢ 10) rest more part.0 one) (omega arith)) in
-        let bad = too_long (rest ++ more) (omega arith) (given ++ more) l in
-        let e : fault ≡ LineTooLong k = unique (given ++ more) fault (LineTooLong k) (known more) bad in
-        let (front, others, line, l', big) = long (given ++ []) k (subst (First (given ++ [])) e (known [])) in
-        let all = rw (cut [], append-nil) at l' in
-        let short = All-between IsShort front line others
-        (subst (All IsShort) all (All-append IsShort ended (lines_of rest) shorts (last rest part))) in
-        omega arith
+        let bad = subst (λ (ls : List (List ℕ)). HasFirst ls (LineTooLong k)) (sym l)
+        (too_long (rest ++ more) (omega arith)) in
+        let e : fault ≡ LineTooLong k = unique (lines_of (given ++ more)) fault (LineTooLong k) (known more) bad in
+        let all = All-append IsShort ended (lines_of rest) shorts (last rest part) in
+        no_long (lines_of (given ++ [])) k (rw (divides [], append-nil) all)
+        (subst (HasFirst (lines_of (given ++ []))) e (known []))

@@ -10,13 +10,15 @@ use Rattle.lts.specs.Labels.{Interns}
 use Rattle.autfmt.specs.declared.fault.Fault.{Fault}
 use Rattle.autfmt.specs.declared.fault.Fault.TheVariants.{LineTooLong, TooManyHidden, Device}
 use Rattle.autfmt.specs.Texts.{lines_of, Lines}
-use Rattle.autfmt.specs.HideLists.{Hides, HideFault}
+use Rattle.autfmt.specs.Faults.{LineFault}
+use Rattle.autfmt.specs.HideLists.{Hides, HideFault, FirstHideFault}
 use Rattle.autfmt.specs.Cutter.{Cutting, CutsLine, BeginsTooLong, IsPart}
 use Rattle.autfmt.specs.HideReaders.{IsHideFault, SameLabels, HidesAs}
 use Rattle.autfmt.specs.HideReadSoFar.{HideReadSoFar}
 use Rattle.autfmt.specs.HideOutcomes.{HideRefuses}
 use Rattle.autfmt.specs.HideOutcomes.HideRefuses.{failed_source, faulty_text}
-use Rattle.autfmt.proofs.HideLaws.{no_judged_hide_fault}
+use Rattle.autfmt.proofs.FirstFaults.{Next, behind}
+use Rattle.autfmt.proofs.HideLaws.{hides, no_judged_hide_fault}
 use Rattle.autfmt.proofs.HasCut.{HasCut-line, HasCut-too_long, HasCut-end, HasCut-more, HasCut-part}
 use Rattle.autfmt.proofs.ReaderSteps.{if_told, none_to_come, fresh}
 use Rattle.autfmt.specs.declared.limits.TheConstants.{MOST_LINES}
@@ -76,7 +78,7 @@ module _ {given : List ℕ} {old : Cutting} {H hidden : List (List ℕ)} (got : 
   hide_failed rest failures few unjudged failed goes_on part =
       let c = HasCut-part given got so_far.lines old so_far.cut goes_on in
       failed_source failed refl (λ f. no_judged_hide_fault (given ++ got) so_far.lines (old.ahead ++ got) H f c
-      so_far.named (omega (arith, as_many)) part (rw as_many at unjudged))
+      so_far.named few part unjudged)
 
   -- Suppose that the source (the object from which the hide list is read) fails after the last line that is allowed.
   -- Then the reader may return `Device`, which is the error of a failed source. The contract allows this error only if
@@ -105,9 +107,16 @@ module _ {given : List ℕ} {old : Cutting} {H hidden : List (List ℕ)} (got : 
   module _ (found : ℕ) (rest : Option (List ℕ)) (failures : ℕ) (count : length H ≡ found) (sound : failures ≡ 0) where
     refused_behind : (fault : Fault) → IsHideFault fault → found ≤ MOST_LINES →
         ((more : List ℕ) → rest ≡ Some more → (line : List ℕ) × (others : List (List ℕ))
-        × Lines (given ++ got ++ more) (so_far.lines ++ line ∷ others) × HideFault (found + 1) line fault) →
+        × Lines (given ++ got ++ more) (so_far.lines ++ line ∷ others) × Next hides MOST_LINES found line fault) →
         HideRefuses (given ++ got) rest failures fault
-    refused_behind fault kind few next = grind (arith, faulty_text, if_told, so_far.lines, so_far.named, as_many)
+    refused_behind fault kind few next =
+        faulty_text sound kind
+        (if_told rest (λ more. FirstHideFault (given ++ got ++ more) fault)
+        (λ more told.
+        let (line, others, l, bad) = next more told in
+        let same = behind hides MOST_LINES 0 found so_far.lines (line ∷ others) H fault so_far.named
+        (omega arith) few in
+        record { first = rw l (same.1 (inl bad)) }))
 
     -- If the next line of the hide list (a file with one label to hide on each line) is too long, then the reader may
     -- return `LineTooLong` with the number of this line.
@@ -116,7 +125,7 @@ module _ {given : List ℕ} {old : Cutting} {H hidden : List (List ℕ)} (got : 
     hide_too_long few goes_on long =
         refused_behind (LineTooLong (found + 1)) tt (omega arith) (λ more told.
         let (line, others, big, l) = HasCut-too_long given got so_far.lines old so_far.cut goes_on more long in
-        (line, others, l, (refl, omega arith, big)))
+        (line, others, l, inl (few, LineFault.too_long refl big)))
 
     -- If the hide list (a file with one label to hide on each line) has a line after the last line that is allowed,
     -- then the reader may return `TooManyHidden`.
@@ -125,7 +134,7 @@ module _ {given : List ℕ} {old : Cutting} {H hidden : List (List ℕ)} (got : 
     hide_behind all goes_on some =
         refused_behind TooManyHidden tt (omega arith) (λ more told.
         let (line, others, l) = HasCut-more given got so_far.lines old so_far.cut goes_on more some in
-        (line, others, l, omega arith))
+        (line, others, l, inr (omega arith, refl)))
 
     -- If the next line of the hide list (a file with one label to hide on each line) has an error, then the reader may
     -- return this error.
@@ -138,4 +147,4 @@ module _ {given : List ℕ} {old : Cutting} {H hidden : List (List ℕ)} (got : 
         let s = HasCut-line given got so_far.lines old so_far.cut goes_on now cuts in
         let l = s more (λ over. none_to_come rest more told (end over)) in
         let others = lines_of (now.ahead ++ more) in
-        (now.line, others, l ∙ append_assoc so_far.lines (now.line ∷ []) others, bad))
+        (now.line, others, l ∙ append_assoc so_far.lines (now.line ∷ []) others, inl (few, bad)))

@@ -4,7 +4,7 @@ use Rattle.std.proofs.Common.{◌≡◌, ℕ, ◌<◌, Contains, List, [], ◌�
 use Rattle.std.proofs.lemmas.List.{length-map, map_push}
 use Rattle.std.proofs.lemmas.List.Elements.{All-push, Contains-append_left, Contains-push}
 use Rattle.theory.specs.System.{Transition, IsAmong, hidden_label}
-use Rattle.lts.specs.Lts.{Triple, IsTriple, transition_of, label_of}
+use Rattle.lts.specs.Lts.{Triple, IsTriple, label_of}
 use Rattle.lts.proofs.CallerLemmas.{transitions-kept}
 use Rattle.autfmt.specs.declared.held.Held.{Held}
 use Rattle.autfmt.specs.Held.{AddsTriple, AreShown, Holds}

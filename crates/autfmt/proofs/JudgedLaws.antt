@@ -2,37 +2,33 @@
 -- error does not depend on the bytes that follow. This file proves for which bytes the first error is known in this
 -- way, and for which bytes the first error still depends on the bytes that follow.
 use Rattle.std.proofs.Common.{◌≡◌, ◌⊎◌, ⊎_elim, ℕ, ◌+◌, ◌<◌, ◌≤◌, List, [], ◌∷◌, ◌++◌, length, refl, inl, inr}
-use Rattle.std.proofs.Common.{arith, All, rules}
+use Rattle.std.proofs.Common.{arith, All}
 use Rattle.std.specs.List.{AllZip}
 use Rattle.std.proofs.lemmas.Bool.{cases_lt}
 use Rattle.std.proofs.lemmas.List.{append_assoc, length-append}
-use Rattle.std.proofs.lemmas.List.Elements.{All-nil, All-cons}
+use Rattle.std.proofs.lemmas.List.Elements.{All-nil, All-cons, All-head, All-tail}
 use Rattle.theory.specs.System.{Transition}
 use Rattle.autfmt.specs.declared.fault.Fault.{Fault}
-use Rattle.autfmt.specs.declared.fault.Fault.TheVariants.{LineTooLong, MissingEdges, ExtraText}
+use Rattle.autfmt.specs.declared.fault.Fault.TheVariants.{BadHeader, LineTooLong, MissingEdges, ExtraText}
 use Rattle.autfmt.specs.Bounds.{Bounds}
 use Rattle.autfmt.specs.Texts.{lines_of, Lines, IsShort, GoodHeader, SpellsAmong}
 use Rattle.autfmt.specs.Cutter.{IsPart}
-use Rattle.autfmt.proofs.Cutting.{Divides, Divides-end, ended_go_on, line_grows, some_line}
-use Rattle.autfmt.specs.Faults.{BeginsWell, FirstFault, JudgedFault}
-use Rattle.autfmt.specs.Faults.LineFault.{too_long}
-use Rattle.autfmt.specs.Faults.FirstFault.{no_line, header, behind}
+use Rattle.autfmt.proofs.Cutting.{Divides, ended_go_on, line_grows, some_line}
+use Rattle.autfmt.specs.Faults.{LineFault, HeaderFault, EdgeFault, LinesFault, FirstFault, JudgedFault}
 use Rattle.autfmt.proofs.Lists.{AllZip-firsts}
-use Rattle.autfmt.proofs.FirstFaults.{HasLongLine, not_known}
 use Rattle.autfmt.proofs.LineFaults.{HeaderFault-long, EdgeFault-long}
-use Rattle.autfmt.proofs.FaultLaws.{FirstFault-unique, Reads-from_lines, Reads-no_fault}
+use Rattle.autfmt.proofs.FirstFaults.{behind, no_long, stays_before, stays, not_known}
+use Rattle.autfmt.proofs.FaultLaws.{edges, LinesFault-unique, LinesFault-none}
 use Rattle.autfmt.specs.declared.line.TheConstants.{LONGEST_LINE}
 
--- If the first error of a text is `LineTooLong`, then the text has a line of more than 8192 bytes (`HasLongLine`).
-long_line : (bounds : Bounds) (text : List ℕ) (k : ℕ) → FirstFault bounds text (LineTooLong k) → HasLongLine text
-long_line bounds text k (no_line l e) = absurd cc
-long_line bounds text k (header line others l bad) =
-    ([], others, line, l, (HeaderFault-long bounds line k bad).0)
-long_line bounds text k (behind m n es [] b next) = let e = next.1 in absurd cc
-long_line bounds text k (behind m n es (line ∷ others) b (inl (less, bad))) =
-    let long = EdgeFault-long n (length es + 2) line k bad in
-    (b.header ∷ b.lines, others, line, b.whole, long.0)
-long_line bounds text k (behind m n es (line ∷ others) b (inr (full, e))) = absurd cc
+-- If no line of an input is too long, then the first error of the input is not `LineTooLong`.
+LinesFault-no_long : (bounds : Bounds) (lines : List (List ℕ)) (k : ℕ) → All IsShort lines →
+    LinesFault bounds lines (LineTooLong k) → ⊥
+LinesFault-no_long bounds [] k short e = cc
+LinesFault-no_long bounds (line ∷ others) k short (inl bad) =
+    omega (arith, (HeaderFault-long bounds line k bad).0, All-head IsShort line others short)
+LinesFault-no_long bounds (line ∷ others) k short (inr (f, m, n, good, bad)) =
+    no_long (edges m n) m 0 others k (All-tail IsShort line others short) bad
 
 -- Suppose that there is no line feed among the bytes that have been read, and that these bytes are not too long for a
 -- line. Then the first error of the whole input still depends on the bytes that may follow, because line 1 may still
@@ -40,9 +36,9 @@ long_line bounds text k (behind m n es (line ∷ others) b (inr (full, e))) = ab
 pub no_judged_header : (bounds : Bounds) (given : List ℕ) (fault : Fault) → IsPart given →
     JudgedFault bounds given fault → ⊥
 no_judged_header bounds given fault part known =
-    not_known (FirstFault bounds) (FirstFault-unique bounds) (long_line bounds) given [] given 1
-    (λ more. refl) (All-nil IsShort) part
-    (λ line long text l. header line [] l (too_long refl long)) fault known
+    not_known (LinesFault bounds) (LinesFault-unique bounds) (LinesFault-no_long bounds) given [] given (λ more. refl)
+    (All-nil IsShort) part (inl (1, λ line long. inl (LineFault.too_long refl long))) fault
+    (λ more. (known more).first)
 
 -- Suppose that the bytes that have been read so far are a correct header, correct transitions on whole lines, and then
 -- the bytes `rest`, which can be a part of the next line (`IsPart`). Suppose also that the header declares further
@@ -54,87 +50,78 @@ pub no_judged_fault :
     (fault : Fault) →
     Divides given (line ∷ lines) rest → GoodHeader bounds line f m n → AllZip (SpellsAmong n) lines es →
     length es ≤ m → IsPart rest → (length es < m) ⊎ (length rest ≡ 0) → JudgedFault bounds given fault → ⊥
-no_judged_fault bounds given line lines rest f m n es fault divides good edges few part unjudged known =
-    step (cases_lt (length es) m)
+no_judged_fault bounds given line lines rest f m n es fault divides good spelled few part unjudged known =
+    not_known (LinesFault bounds) (LinesFault-unique bounds) (LinesFault-no_long bounds) given
+    (line ∷ lines) rest divides
+    (All-cons IsShort line lines good.short
+    (AllZip-firsts (SpellsAmong n) IsShort (λ l e s. s.0.0) lines es spelled))
+    part
+    (⊎_elim (λ less. inl (length es + 2, too_long less))
+    (λ full. inr (at_end full, λ g. LinesFault-none bounds line lines f m n es g good spelled (omega arith)))
+    (cases_lt (length es) m))
+    fault (λ more. (known more).first)
   where
-    shorts : All IsShort (line ∷ lines)
-    shorts =
-        All-cons IsShort line lines good.short
-        (AllZip-firsts (SpellsAmong n) IsShort (λ l e spelled. spelled.0.0) lines es edges)
+    too_long : length es < m → (long : List ℕ) → LONGEST_LINE < length long →
+        LinesFault bounds (line ∷ lines ++ long ∷ []) (LineTooLong (length es + 2))
+    too_long less long big =
+        let same = behind (edges m n) m 0 (length es) lines (long ∷ []) es (LineTooLong (length es + 2)) spelled
+        (omega arith) few in
+        inr (f, m, n, good, same.1 (inl (inl (less, LineFault.too_long refl big))))
 
-    next_long : length es < m → (long : List ℕ) → LONGEST_LINE < length long → (text : List ℕ) →
-        Lines text ((line ∷ lines) ++ long ∷ []) → FirstFault bounds text (LineTooLong (length es + 2))
-    next_long less long big text l =
-        let b : BeginsWell bounds text m n es (long ∷ []) = search rules in
-        behind m n es (long ∷ []) b (inl (less, too_long refl big))
+    at_end : m ≤ length es → length rest ≡ 0
+    at_end full = ⊎_elim (λ less. absurd (omega arith)) (λ none. none) unjudged
 
-    at_end : length es ≡ m → length rest ≡ 0 → ⊥
-    at_end full none =
-        let l = Divides-end given (line ∷ lines) rest divides none in
-        let read = Reads-from_lines bounds (given ++ []) line lines f m n es l good edges full in
-        Reads-no_fault bounds (given ++ []) (record { first = f; states = n; transitions = es }) fault read (known [])
+-- Suppose that `fault` is the first error of an input, and that `fault` remains the error of a line if further bytes
+-- are appended to the line. Suppose also that `fault` is neither `BadHeader` nor `MissingEdges` (transitions are
+-- missing). Then `fault` remains the first error if further bytes are appended to the input.
+FirstFault-stays : (bounds : Bounds) (given more : List ℕ) (fault : Fault) → (fault ≡ BadHeader → ⊥) →
+    ((found : ℕ) → fault ≡ MissingEdges found → ⊥) →
+    ((line tail : List ℕ) → HeaderFault bounds line fault → HeaderFault bounds (line ++ tail) fault) →
+    ((n k : ℕ) (line tail : List ℕ) → EdgeFault n k line fault → EdgeFault n k (line ++ tail) fault) →
+    FirstFault bounds given fault → FirstFault bounds (given ++ more) fault
+FirstFault-stays bounds given more fault some whole header edge bad =
+    record { first = step (lines_of given) refl bad.first }
+  where
+    step : (lines : List (List ℕ)) → Lines given lines → LinesFault bounds lines fault →
+        LinesFault bounds (lines_of (given ++ more)) fault
+    step [] l e = absurd (some e)
+    step (line ∷ others) l (inl h) =
+        let (tail, others', l') = line_grows given more [] others line l in rw l' (inl (header line tail h))
+    step (line ∷ others) l (inr (f, m, n, good, h)) =
+        let (others', l', h') = stays (edges m n) m given more fault (λ i lack. whole i lack.1) (λ i. edge n (i + 2)) 0
+        (line ∷ []) others l h in
+        rw l' (inr (f, m, n, good, h'))
 
-    step : (length es < m) ⊎ (m ≤ length es) → ⊥
-    step (inl less) =
-        not_known (FirstFault bounds) (FirstFault-unique bounds) (long_line bounds) given (line ∷ lines) rest
-        (length es + 2) divides shorts part (next_long less) fault known
-    step (inr full) = ⊎_elim (λ less. omega arith) (at_end (omega arith)) unjudged
+-- Suppose that the first error of an input is that a line is too long. Then this error remains the first error if
+-- further bytes are appended to the input.
+pub long_stays : (bounds : Bounds) (given more : List ℕ) (k : ℕ) → FirstFault bounds given (LineTooLong k) →
+    FirstFault bounds (given ++ more) (LineTooLong k)
+long_stays bounds given more k =
+    FirstFault-stays bounds given more (LineTooLong k) (λ e. cc) (λ found e. cc)
+    (λ line tail bad. (HeaderFault-long bounds line k bad).1 tail)
+    (λ n i line tail bad. (EdgeFault-long n i line k bad).1 tail)
 
-module _ (bounds : Bounds) (given more : List ℕ) where
-  -- Suppose that an input consists of correct lines, a next line, and other lines. If further bytes are appended to the
-  -- input, then the longer input begins with the same correct lines. The next line of the longer input begins with the
-  -- next line of the original input.
-  goes_on_well : (m n : ℕ) (es : List Transition) (line : List ℕ) (others : List (List ℕ)) →
-      BeginsWell bounds given m n es (line ∷ others) →
-      (tail : List ℕ) × (others' : List (List ℕ)) × BeginsWell bounds (given ++ more) m n es ((line ++ tail) ∷ others')
-  goes_on_well m n es line others b =
-      let (tail, others', l) = line_grows given more (b.header ∷ b.lines) others line b.whole in
-      (tail, others', search rules)
-
-  -- Suppose that the first error of an input is that a line is too long. Then this error remains the first error if
-  -- further bytes are appended to the input.
-  pub long_stays : (k : ℕ) → FirstFault bounds given (LineTooLong k) → FirstFault bounds (given ++ more) (LineTooLong k)
-  long_stays k (no_line l e) = absurd cc
-  long_stays k (header line others l bad) =
-      let (tail, others', l') = line_grows given more [] others line l in
-      header (line ++ tail) others' l' ((HeaderFault-long bounds line k bad).1 tail)
-  long_stays k (behind m n es [] b next) = let e = next.1 in absurd cc
-  long_stays k (behind m n es (line ∷ others) b (inl (less, bad))) =
-      let (tail, others', b') = goes_on_well m n es line others b in
-      behind m n es ((line ++ tail) ∷ others') b' (inl (less, (EdgeFault-long n (length es + 2) line k bad).1 tail))
-  long_stays k (behind m n es (line ∷ others) b (inr (full, e))) = absurd cc
-
-  -- Suppose that the first error of an input is that a line follows the last transition that the header declares. Then
-  -- this error remains the first error if further bytes are appended to the input.
-  pub extra_stays : (k : ℕ) → FirstFault bounds given (ExtraText k) → FirstFault bounds (given ++ more) (ExtraText k)
-  extra_stays k (no_line l e) = absurd cc
-  extra_stays k (header line others l bad) = absurd (grind arith)
-  extra_stays k (behind m n es [] b next) = absurd (grind arith)
-  extra_stays k (behind m n es (line ∷ others) b (inl next)) = grind arith
-  extra_stays k (behind m n es (line ∷ others) b (inr (full, e))) =
-      let (tail, others', b') = goes_on_well m n es line others b in
-      behind m n es ((line ++ tail) ∷ others') b' (inr (full, e))
+-- Suppose that the first error of an input is that a line follows the last transition that the header declares. Then
+-- this error remains the first error if further bytes are appended to the input.
+pub extra_stays : (bounds : Bounds) (given more : List ℕ) (k : ℕ) → FirstFault bounds given (ExtraText k) →
+    FirstFault bounds (given ++ more) (ExtraText k)
+extra_stays bounds given more k =
+    FirstFault-stays bounds given more (ExtraText k) (λ e. cc) (λ found e. cc)
+    (λ line tail bad. absurd (grind arith)) (λ n i line tail bad. absurd (grind arith))
 
 -- Suppose that the bytes that have been read so far end with a line feed. Suppose also that an input that consists of
 -- exactly these bytes has an error, and that its first error is not `MissingEdges` (transitions are missing). Then this
 -- error is the first error of the whole input, whatever bytes follow.
 pub ended_known : (bounds : Bounds) (front : List ℕ) (fault : Fault) → FirstFault bounds (front ++ 10 ∷ []) fault →
     ((found : ℕ) → fault ≡ MissingEdges found → ⊥) → JudgedFault bounds (front ++ 10 ∷ []) fault
-ended_known bounds front fault first found more = step first
+ended_known bounds front fault bad found more =
+    record { first = rw (append_assoc, ended_go_on front more) (step (lines_of (front ++ 10 ∷ [])) refl bad.first) }
   where
-    go_on : (lines : List (List ℕ)) → Lines (front ++ 10 ∷ []) lines →
-        Lines ((front ++ 10 ∷ []) ++ more) (lines ++ lines_of more)
-    go_on lines l = rw (append_assoc, ← l) (ended_go_on front more)
-
-    step : FirstFault bounds (front ++ 10 ∷ []) fault → FirstFault bounds ((front ++ 10 ∷ []) ++ more) fault
-    step (no_line l e) =
+    step : (lines : List (List ℕ)) → Lines (front ++ 10 ∷ []) lines → LinesFault bounds lines fault →
+        LinesFault bounds (lines ++ lines_of more) fault
+    step [] l e =
         let (line, others, some) = some_line (front ++ 10 ∷ []) (omega (arith, length-append front (10 ∷ []))) in
         absurd cc
-    step (header line others l bad) = header line (others ++ lines_of more) (go_on (line ∷ others) l) bad
-    step (behind m n es [] b next) = absurd (found (length es) next.1)
-    step (behind m n es (line ∷ others) b next) =
-        let l = rw (append_assoc b.lines (line ∷ others) (lines_of more)) at
-        (go_on (b.header ∷ b.lines ++ line ∷ others) b.whole) in
-        let b' : BeginsWell bounds ((front ++ 10 ∷ []) ++ more) m n es (line ∷ (others ++ lines_of more)) =
-        search rules in
-        behind m n es (line ∷ (others ++ lines_of more)) b' next
+    step (line ∷ others) l (inl h) = inl h
+    step (line ∷ others) l (inr (f, m, n, good, h)) =
+        inr (f, m, n, good, stays_before (edges m n) m 0 others (lines_of more) fault (λ i lack. found i lack.1) h)

@@ -4,7 +4,7 @@ use Rattle.std.proofs.Common.{rules, ◌≡◌, ℕ, ◌+◌, ◌-◌, ◌≤◌
 use Rattle.std.proofs.Common.{arith}
 use Rattle.std.proofs.lemmas.List.{append_assoc, take-append-drop, take_rest, take-take, length-take-le}
 use Rattle.std.specs.List.{AllZip}
-use Rattle.std.proofs.lemmas.List.Elements.{All-nil, All-cons, All-head, All-tail}
+use Rattle.std.proofs.lemmas.List.Elements.{All-nil, All-cons}
 use Rattle.std.proofs.Math.Seq.{take-append-add}
 
 -- Suppose that a list consists of the parts `front` and `rest`. Then the list stays the same if the first n elements of
@@ -40,9 +40,3 @@ AllZip-unique R S one [] [] [] a b = refl
 AllZip-unique R S one (x ∷ xs) (y ∷ ys) (z ∷ zs) a b =
     ap₂ ◌∷◌ (one x y z a.0 b.0) (AllZip-unique R S one xs ys zs a.1 b.1)
 AllZip-unique R S one xs ys zs a b = grind arith
-
--- Suppose that a list consists of the list xs, the element x and the list ys, and that all elements of the list have
--- the property P. Then x has the property P.
-pub All-between : {A : Type 0} (P : A → Type 0) (xs : List A) (x : A) (ys : List A) → All P (xs ++ x ∷ ys) → P x
-All-between P [] x ys all = All-head P x ys all
-All-between P (a ∷ xs) x ys all = All-between P xs x ys (All-tail P a (xs ++ x ∷ ys) all)

@@ -15,15 +15,15 @@ use Rattle.autfmt.specs.declared.judge.Promise.{Promise}
 use Rattle.autfmt.specs.Bounds.{Bounds}
 use Rattle.autfmt.specs.Grammar.{TransitionLine}
 use Rattle.autfmt.specs.Texts.{lines_of, Lines, GoodHeader, Reads}
-use Rattle.autfmt.specs.Faults.{LineFault, HeaderFault, EdgeFault, NextFault, FirstFault}
-use Rattle.autfmt.specs.Faults.FirstFault.{header, behind}
+use Rattle.autfmt.specs.Faults.{LineFault, HeaderFault, EdgeFault, EdgesFault, FirstFault}
 use Rattle.autfmt.specs.Cutter.{Cutting, HasCut, CutsLine, CutsEnd, BeginsTooLong, IsPart}
 use Rattle.autfmt.specs.Held.{Holds}
 use Rattle.autfmt.specs.Readers.{IsTextFault, HasGoodHeader}
 use Rattle.autfmt.specs.Outcomes.{Refuses}
 use Rattle.autfmt.specs.ReadSoFar.{ReadSoFar, HeldSoFar, ReadsOneMore}
 use Rattle.autfmt.specs.Outcomes.Refuses.{no_memory, failed_source, faulty_text}
-use Rattle.autfmt.proofs.FaultLaws.{Reads-from_lines}
+use Rattle.autfmt.proofs.FirstFaults.{behind}
+use Rattle.autfmt.proofs.FaultLaws.{edges, Reads-from_lines}
 use Rattle.autfmt.proofs.JudgedLaws.{no_judged_header, no_judged_fault}
 use Rattle.autfmt.proofs.Holding.{Holds-length}
 use Rattle.autfmt.proofs.HasCut.{HasCut-line, HasCut-too_long, HasCut-end, HasCut-more, HasCut-part}
@@ -78,7 +78,7 @@ module _ (bounds : Bounds) (old : Cutting) (got : List ℕ) (rest : Option (List
       (λ more told.
       let (line, others, big, l) =
       HasCut-too_long [] got [] old (HasCut-fresh old new) (fresh_goes_on old new) more long in
-      header line others l (LineFault.too_long refl big)))
+      record { first = rw l (inl (LineFault.too_long refl big)) }))
 
   -- If the line splitter has split off line 1, then the result of checking this line is correct: either line 1 is a
   -- correct header, or the result is the first error of the input.
@@ -100,7 +100,7 @@ module _ (bounds : Bounds) (old : Cutting) (got : List ℕ) (rest : Option (List
       (λ more told.
       let s = HasCut-line [] got [] old (HasCut-fresh old new) (fresh_goes_on old new) now cuts in
       let l = s more (λ over. none_to_come rest more told (end over)) in
-      header now.line (lines_of (now.ahead ++ more)) l bad))
+      record { first = rw l (inl bad) }))
 
 -- Suppose that a correct header has been read, that any number of lines has been read after it, and that an allocation
 -- then fails. Then the reader may return `Memory`.
@@ -182,15 +182,17 @@ module _ {bounds : Bounds} {given : List ℕ} {old : Cutting} {p : Promise} {es 
   -- states which bytes the source contains, each error that the reader returns must then be the first error of the
   -- whole input.
   module _ (found : ℕ) (rest : Option (List ℕ)) (failures : ℕ) (count : length es ≡ found) (sound : failures ≡ 0) where
-    refused_behind : (fault : Fault) → IsTextFault fault →
+    refused_behind : (fault : Fault) → IsTextFault fault → found ≤ p.transitions →
         ((more : List ℕ) → rest ≡ Some more → (others : List (List ℕ)) × Lines (given ++ got ++ more) (before ++ others)
-        × NextFault p.transitions p.states found others fault) → Refuses bounds (given ++ got) rest failures fault
-    refused_behind fault kind next =
+        × EdgesFault p.transitions p.states found others fault) → Refuses bounds (given ++ got) rest failures fault
+    refused_behind fault kind few next =
         faulty_text sound kind
         (if_told rest (λ more. FirstFault bounds (given ++ got ++ more) fault)
         (λ more told.
         let (others, l, bad) = next more told in
-        behind p.transitions p.states es others (grind arith) (rw count bad)))
+        let same = behind (edges p.transitions p.states) p.transitions 0 found so_far.lines others es fault
+        so_far.spelled (omega arith) few in
+        record { first = rw l (inr (p.first, p.transitions, p.states, so_far.good, same.1 bad)) }))
 
     -- Suppose that the input ends before the last transition that the header declares. Then the reader may return
     -- `MissingEdges`, which says that transitions are missing.
@@ -198,7 +200,7 @@ module _ {bounds : Bounds} {given : List ℕ} {old : Cutting} {p : Promise} {es 
         (now : Cutting) → found < p.transitions → (now.over ≡ true → IsAtEnd rest) → CutsEnd (old.ahead ++ got) now →
         Refuses bounds (given ++ got) rest failures (MissingEdges found)
     transition_missing now promised end cuts =
-        refused_behind (MissingEdges found) tt (λ more told.
+        refused_behind (MissingEdges found) tt (omega arith) (λ more told.
         let l = HasCut-end given got before old so_far.cut cuts.none in
         ([], rw (none_to_come rest more told (end cuts.over), append-nil, append-nil before) l, (promised, refl)))
 
@@ -206,17 +208,17 @@ module _ {bounds : Bounds} {given : List ℕ} {old : Cutting} {p : Promise} {es 
     pub transition_too_long : found < p.transitions → (old.over ≡ true → ⊥) → BeginsTooLong (old.ahead ++ got) →
         Refuses bounds (given ++ got) rest failures (LineTooLong (found + 2))
     transition_too_long promised goes_on long =
-        refused_behind (LineTooLong (found + 2)) tt (λ more told.
+        refused_behind (LineTooLong (found + 2)) tt (omega arith) (λ more told.
         let (line, others, big, l) = HasCut-too_long given got before old so_far.cut goes_on more long in
-        (line ∷ others, l, inl (promised, LineFault.too_long refl big)))
+        (line ∷ others, l, inl (inl (promised, LineFault.too_long refl big))))
 
     -- If there is a line after the last transition that the header declares, then the reader may return `ExtraText`.
     pub text_behind : found ≡ p.transitions → (old.over ≡ true → ⊥) → 1 ≤ length (old.ahead ++ got) →
         Refuses bounds (given ++ got) rest failures (ExtraText (found + 2))
     text_behind all goes_on some =
-        refused_behind (ExtraText (found + 2)) tt (λ more told.
+        refused_behind (ExtraText (found + 2)) tt (omega arith) (λ more told.
         let (line, others, l) = HasCut-more given got before old so_far.cut goes_on more some in
-        (line ∷ others, l, inr (all, refl)))
+        (line ∷ others, l, inl (inr (omega arith, refl))))
 
     -- If the next line of the input has an error, then the reader may return this error.
     pub transition_faulty : (now : Cutting) (fault : Fault) → found < p.transitions → (old.over ≡ true → ⊥) →
@@ -224,11 +226,11 @@ module _ {bounds : Bounds} {given : List ℕ} {old : Cutting} {p : Promise} {es 
         CutsLine (old.ahead ++ got) now → EdgeFault p.states (found + 2) now.line fault → IsTextFault fault →
         Refuses bounds (given ++ got) rest failures fault
     transition_faulty now fault promised goes_on end cuts bad kind =
-        refused_behind fault kind (λ more told.
+        refused_behind fault kind (omega arith) (λ more told.
         let s = HasCut-line given got before old so_far.cut goes_on now cuts in
         let l = s more (λ over. none_to_come rest more told (end over)) in
         let others = lines_of (now.ahead ++ more) in
-        (now.line ∷ others, l ∙ append_assoc before (now.line ∷ []) others, inl (promised, bad)))
+        (now.line ∷ others, l ∙ append_assoc before (now.line ∷ []) others, inl (inl (promised, bad))))
 
 pub goes_on : {over : Bool} → over ≡ false → over ≡ true → ⊥
 goes_on open_at over = cc

@@ -2,24 +2,22 @@
 -- the first error of the input is the error of its first incorrect line. If all lines are correct but transitions are
 -- missing, the first error is that transitions are missing. If the input has no lines, the first error is that it has
 -- no header. An input has at most one first error.
-use Rattle.std.specs.Prelude.{◌≡◌, ◌⊎◌, ℕ, ◌+◌, ◌<◌, ◌==◌, nat_lt, nat_le, List, [], ◌∷◌, ◌++◌, length, Option, Some}
-use Rattle.std.specs.Prelude.{None, if◌then◌else◌}
-use Rattle.std.specs.List.{AllZip}
+use Rattle.std.specs.Prelude.{◌≡◌, ◌⊎◌, ℕ, ◌+◌, ◌<◌, ◌≤◌, ◌==◌, nat_lt, nat_le, List, [], ◌∷◌, ◌++◌, length, Option}
+use Rattle.std.specs.Prelude.{Some, None, if◌then◌else◌}
 use Rattle.autfmt.specs.declared.fault.Fault.{Fault}
 use Rattle.autfmt.specs.declared.fault.Fault.TheVariants.{BadHeader, FirstState, NoStates, TooManyStates}
 use Rattle.autfmt.specs.declared.fault.Fault.TheVariants.{TooManyTransitions, LineTooLong, BadEdge, SourceRange}
 use Rattle.autfmt.specs.declared.fault.Fault.TheVariants.{TargetRange, ExtraText, MissingEdges}
 use Rattle.autfmt.specs.declared.line.TheConstants.{LONGEST_LINE}
 use Rattle.autfmt.specs.Bounds.{Bounds}
-use Rattle.theory.specs.System.{Transition}
 use Rattle.autfmt.specs.Grammar.{Header, TransitionLine}
-use Rattle.autfmt.specs.Texts.{Lines, IsShort, GoodHeader, SpellsAmong}
+use Rattle.autfmt.specs.Texts.{lines_of, IsShort, GoodHeader}
 
--- `LineFault IsRead fault_in k bad line fault` holds if `fault` is the error of `line`, which is line k of an input. The
--- contents of a correct line are a value x such that `IsRead x` holds. There are three possible errors. First, the line
--- has more than 8192 bytes (`LONGEST_LINE`). Second, the line has no contents. In this case, `fault` is the error `bad`.
--- Third, the line has the contents x, but there is an error in x. In this case, the function `fault_in` returns the
--- error.
+-- `LineFault IsRead fault_in k bad line fault` holds if `fault` is the error of `line`, which is line k of an input.
+-- The contents of a correct line are a value x such that `IsRead x` holds. There are three possible errors. First, the
+-- line has more than 8192 bytes (`LONGEST_LINE`). Second, the line has no contents. In this case, `fault` is the error
+-- `bad`. Third, the line has the contents x, but there is an error in x. In this case, the function `fault_in` returns
+-- the error.
 pub data LineFault {X : Type 0} (IsRead : X → Type 0) (fault_in : X → Option Fault) (k : ℕ) (bad : Fault)
     (line : List ℕ) (fault : Fault) : Type 0 where
   too_long : fault ≡ LineTooLong k → LONGEST_LINE < length line → LineFault IsRead fault_in k bad line fault
@@ -55,37 +53,46 @@ EdgeFault n k line fault =
     LineFault {X = ℕ × List ℕ × ℕ} (λ x. TransitionLine line x.0 x.1 x.2) (λ x. ends_fault n k x.0 x.2) k (BadEdge k)
     line fault
 
--- `BeginsWell bounds text m n es others` holds if the input `text` consists of the following lines. The first line is a
--- correct header. This header declares m transitions and n states, and these two numbers are within the limits
--- `bounds`. After the header, there is one line for each transition in the list es. The sources and targets of these
--- transitions are states of the system, which are the numbers less than n. The remaining lines of the input are the
--- lines in the list `others`.
-pub record BeginsWell (bounds : Bounds) (text : List ℕ) (m n : ℕ) (es : List Transition) (others : List (List ℕ)) :
-    Type 0 where
-  pub header : List ℕ
-  pub first : ℕ
-  pub lines : List (List ℕ)
-  pub whole : Lines text (header ∷ lines ++ others)
-  pub good : GoodHeader bounds header first m n
-  pub spelled : AllZip (SpellsAmong n) lines es
+-- `NextFault most Bad extra found line fault` holds if `fault` is the error of a line that follows `found` other lines.
+-- At most `most` lines are allowed. If the line is allowed, its error is defined by `Bad`: `Bad found line fault`
+-- states that `fault` is the error of the line. If the line is not allowed, its error is `extra found`.
+abbrev pub NextFault :
+    (most : ℕ) → (Bad : ℕ → List ℕ → Fault → Type 0) → (extra : ℕ → Fault) → ℕ → List ℕ → Fault → Type 0
+NextFault most Bad extra found line fault =
+    ((found < most) × Bad found line fault) ⊎ ((most ≤ found) × (fault ≡ extra found))
 
--- `NextFault m n found others fault` holds if `fault` is the first error of an input that begins with a correct header
--- and `found` correct transitions. The header declares m transitions and n states, and the lines in the list `others`
--- follow the correct transitions. If `others` contains a line, `fault` is the error of the first line in `others`. If
--- `others` is empty, `fault` is the error that transitions are missing.
-abbrev pub NextFault : ℕ → ℕ → ℕ → List (List ℕ) → Fault → Type 0
-NextFault m n found [] fault = (found < m) × (fault ≡ MissingEdges found)
-NextFault m n found (line ∷ others) fault =
-    ((found < m) × EdgeFault n (found + 2) line fault) ⊎ ((found ≡ m) × (fault ≡ ExtraText (found + 2)))
+-- `FaultFrom Next Lack found lines fault` holds if `fault` is the first error of an input in the lines `lines`, which
+-- follow `found` lines without an error. If some of the lines have an error (`Next`), `fault` is the error of the first
+-- such line. If none of the lines has an error, `fault` is the error of an input that ends after these lines (`Lack`).
+abbrev pub FaultFrom :
+    (Next : ℕ → List ℕ → Fault → Type 0) → (Lack : ℕ → Fault → Type 0) → ℕ → List (List ℕ) → Fault → Type 0
+FaultFrom Next Lack found [] fault = Lack found fault
+FaultFrom Next Lack found (line ∷ others) fault =
+    Next found line fault ⊎ (((f : Fault) → ¬ Next found line f) × FaultFrom Next Lack (found + 1) others fault)
+
+-- `EndFault m found fault` holds if `fault` is the error of an input that ends after `found` transitions although its
+-- header declares m transitions. There is such an error only if `found` is less than m.
+abbrev pub EndFault : ℕ → ℕ → Fault → Type 0
+EndFault m found fault = (found < m) × (fault ≡ MissingEdges found)
+
+-- `EdgesFault m n found lines fault` holds if `fault` is the first error of an input in the lines `lines`. These lines
+-- follow a correct header, which declares m transitions and n states, and `found` correct transitions.
+abbrev pub EdgesFault : (m n found : ℕ) → List (List ℕ) → Fault → Type 0
+EdgesFault m n =
+    FaultFrom (NextFault m (λ found. EdgeFault n (found + 2)) (λ found. ExtraText (found + 2))) (EndFault m)
+
+-- `LinesFault bounds lines fault` holds if `fault` is the first error of an input that consists of the lines `lines`.
+-- If the input has no line, its error is that it has no header. If the header has an error, `fault` is this error.
+-- Otherwise, `fault` is the first error after the header (`EdgesFault`).
+abbrev pub LinesFault : Bounds → List (List ℕ) → Fault → Type 0
+LinesFault bounds [] fault = fault ≡ BadHeader
+LinesFault bounds (line ∷ others) fault =
+    HeaderFault bounds line fault ⊎ ((f m n : ℕ) × GoodHeader bounds line f m n × EdgesFault m n 0 others fault)
 
 -- `FirstFault bounds text fault` holds if `fault` is the first error of the input `text`, where the header may declare
 -- only numbers within the limits `bounds`.
-pub data FirstFault (bounds : Bounds) (text : List ℕ) (fault : Fault) : Type 0 where
-  no_line : Lines text [] → fault ≡ BadHeader → FirstFault bounds text fault
-  header : (line : List ℕ) (others : List (List ℕ)) → Lines text (line ∷ others) → HeaderFault bounds line fault →
-      FirstFault bounds text fault
-  behind : (m n : ℕ) (es : List Transition) (others : List (List ℕ)) →
-      BeginsWell bounds text m n es others → NextFault m n (length es) others fault → FirstFault bounds text fault
+pub record FirstFault (bounds : Bounds) (text : List ℕ) (fault : Fault) : Type 0 where
+  pub first : LinesFault bounds (lines_of text) fault
 
 -- `JudgedFault bounds given fault` holds if `fault` is the first error of every input that begins with the bytes
 -- `given`. Therefore a reader that has read only these bytes can already report the error.

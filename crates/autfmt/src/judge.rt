@@ -1,7 +1,7 @@
 //! This module checks one line of an input, and returns either the contents of this line or its error.
 ghost use Rattle.std.specs.Prelude.{◌<◌, ◌≤◌, IfOk, IfErr};
 ghost use Rattle.theory.specs.System.{IsLabel};
-ghost use Rattle.autfmt.specs.declared.limits.TheConstants.{FILE_STATES, FILE_TRANSITIONS, MOST_LINES};
+ghost use Rattle.autfmt.specs.declared.limits.TheConstants.{FILE_STATES, FILE_TRANSITIONS};
 ghost use Rattle.autfmt.specs.Grammar.{TransitionLine};
 ghost use Rattle.autfmt.specs.Texts.{IsShort, GoodHeader};
 ghost use Rattle.autfmt.specs.Faults.{HeaderFault, EdgeFault};
@@ -81,8 +81,7 @@ pub(crate) fn judge_transition(
 
 /// Checks that line `k` of a hide list (the labels to hide) is a label. Returns this label.
 pub(crate) fn judge_hide_line(line: &[u8], k: u32) -> Result<&[u8], Fault>
-    requires short { IsShort line.now }
-    requires few { k ≤ MOST_LINES }
+    requires { IsShort line.now }
     ensures good { IfOk result (λ a. Hides line.now a.now) }
     ensures label { IfOk result (λ a. IsLabel a.now) }
     ensures fault { IfErr result (λ f. HideFault k line.now f) }
