@@ -93,12 +93,12 @@ module _ (A : System) (sys : IsSystem A) (old new : ℕ → ℕ) (refines : Refi
             let is = keeps t (step_below A sys u a t step).1 (still.1 a (new t) can) ∙ at in
             subst (Signature Branching A new s a) is can
 
--- In the following lemmas, `active` holds for the active states, which are the states that a round processes. These
--- states include all states whose signatures may have changed (`AreEnoughToProcess`). A block ID is new if it is at
--- least `first_new`, and otherwise it is old.
+-- In the following lemmas, `active` is a predicate on states. The lemmas that need it suppose that `active` holds for
+-- all states whose signatures may have changed (`AreEnoughToProcess`). A block ID is new if it is at least `first_new`,
+-- and otherwise it is old.
 module _ (A : System) (sys : IsSystem A) (blocks : ℕ → ℕ) (first_new : ℕ) (active : ℕ → Type 0) where
-  -- The active states are the states that the round processes. Suppose that the state s is in an old block, which
-  -- existed before the split, and that a path of inert steps leads from s to an active state. Then s is active, too.
+  -- Suppose that the state s is in an old block, which existed before the split, and that a path of inert steps leads
+  -- from s to a state that satisfies `active`. Then s satisfies `active`, too.
   found_back : AreEnoughToProcess Branching A blocks first_new active → (s : ℕ) (us : List ℕ) (u : ℕ)
       → blocks s < first_new → Along (Inert A blocks) s us u → active u → active s
   found_back looks s [] u l here found = subst active (sym here) found
@@ -108,7 +108,7 @@ module _ (A : System) (sys : IsSystem A) (blocks : ℕ → ℕ) (first_new : ℕ
       looks.inner refl s t below first old (found_back looks t us u old way found)
 
   -- Suppose that the signature of a state contains the ID of a new block. For branching bisimilarity, suppose also that
-  -- the state is in an old block, which existed before the split. Then the round processes this state.
+  -- the state is in an old block, which existed before the split. Then this state satisfies `active`.
   shows_new : (rel : Relation) → AreEnoughToProcess rel A blocks first_new active → (s : ℕ) (a : List ℕ) (b : ℕ)
       → (rel ≡ Branching → blocks s < first_new) → Signature rel A blocks s a b → first_new ≤ b → active s
   shows_new Strong looks s a b old (t, step, at) new =
@@ -140,8 +140,8 @@ module _ (A : System) (sys : IsSystem A) (blocks : ℕ → ℕ) (first_new : ℕ
         absurd (none (e, has, (rw (label, at) can, omega (arith, at, l))))
   ]
 
-  -- Let s be a state. For branching bisimilarity, suppose that the block ID of s is old. Then the round processes s, or
-  -- neither the block ID of s nor any block ID in the signature of s is new.
+  -- Let s be a state. For branching bisimilarity, suppose that the block ID of s is old. Then s satisfies `active`, or no
+  -- block ID in the signature of s is new (`MentionsOnlyOld`).
   found_or_old : (rel : Relation) → AreEnoughToProcess rel A blocks first_new active → (s : ℕ)
       → (rel ≡ Branching → blocks s < first_new) → active s ⊎ MentionsOnlyOld rel A blocks first_new s
   found_or_old rel looks s old =

@@ -32,11 +32,13 @@ KeepsSignature rel A old new s = (a : List ℕ) (b : ℕ) → Signature rel A ne
 abbrev pub HasEmptySignature : System → (ℕ → ℕ) → ℕ → Type 0
 HasEmptySignature A blocks s = (a : List ℕ) (b : ℕ) → ¬ Signature Branching A blocks s a b
 
--- The active states are the states that a round processes. `AreEnoughToProcess` holds if all states whose signatures
--- may have changed are active. A block is new if its ID is at least `first_new`. The source of each step to a state of
--- a new block must be active. For branching bisimilarity, two further kinds of states must be active. The first kind
--- consists of the states of new blocks. The second kind consists of the states from which an inert step leads to an
--- active state in a block that is not new.
+-- `AreEnoughToProcess` states which states a round must process, so that every other state has the same signature as
+-- before the split. The predicate `active` must hold for all of these states. A block is new if its ID is at least
+-- `first_new`. The source of each step to a state of a new block must satisfy `active`. For branching bisimilarity, two
+-- further kinds of states must satisfy `active`. The first kind consists of the states of new blocks. The second kind
+-- consists of the states from which an inert step leads to a state that satisfies `active` and is in a block that is
+-- not new. A caller may let `active` also hold for states that need not be processed for another reason, such as the
+-- states of singleton blocks (blocks with one state).
 pub record AreEnoughToProcess (rel : Relation) (A : System) (blocks : ℕ → ℕ) (first_new : ℕ) (active : ℕ → Type 0) :
     Type 0 where
   pub new : rel ≡ Branching → (t : ℕ) → t < A.states → first_new ≤ blocks t → active t
