@@ -31,10 +31,10 @@ transitions-kept old new states (e ∷ es) keeps h = let text = keeps.texts (lab
     search rules
 
 -- States are numbers. `HasAppended` holds while the transitions of the system l are appended to a union, with the
--- number `shift` added to each of their states. The label table and the triples were `old_labels` and `old_es` before,
--- and are `labels` and es now. The first k transitions of l were appended, the part of the union that is built
--- satisfies `IsJoined`, and the meter has counted k visits (reads of transitions). Its counts were `start` before, and
--- are `now`.
+-- number `shift` added to each of their states. The label table and the triples were `old_labels` and `old_es` before
+-- the first transition of l was appended, and are `labels` and es at present. The first k transitions of l were
+-- appended, the part of the union that is built satisfies `IsJoined`, and the meter has counted k visits (reads of
+-- transitions). The counts of the meter were `start` before the first of these visits, and are `now` at present.
 pub record HasAppended (l : Grouped) (shift : ℕ) (old_labels : List (List ℕ)) (old_es : List Triple)
     (labels : List (List ℕ)) (es : List Triple) (start now : Counts) (k : ℕ) : Type 0 where
   pub joined : IsJoined labels (shift + l.states) es

@@ -32,6 +32,7 @@ pub struct Visited {
     words: Vec<u64>,
 }
 
+/// `Drop` is implemented explicitly to make proofs smaller (see "Drops" in `docs/changing.md`).
 impl Drop for Visited {
     fn drop(self) {
         let Visited {
