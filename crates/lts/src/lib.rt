@@ -25,6 +25,6 @@ pub use labels::{LONGEST_LABEL, Labels, is_label};
 pub use lts::{Lts, in_range, visit_rest};
 pub use memory::{MOST_LABELS, MOST_STATES, MOST_TRANSITIONS, Memory};
 pub use meter::{Counter, Meter};
-pub use row_laws::{rows_are_steps, rows_follow};
+pub use row_laws::rows_follow;
 pub use transitions::Transitions;
 pub use visited::Visited;

@@ -8,9 +8,9 @@ use Rattle.theory.specs.declared.relation.Relation.{Relation}
 use Rattle.theory.specs.declared.relation.Relation.TheVariants.{Strong, Branching}
 use Rattle.theory.specs.Blocks.{Inert, Signature, Turns}
 use Rattle.theory.proofs.CallerLemmas.{strong_is_branching, branching_is_strong, SameSignatures, same_signatures_turns}
-use Rattle.lts.specs.Labels.{IsLabelId}
 use Rattle.lts.specs.Lts.{Grouped, IsLts, system_of}
 use Rattle.lts.specs.Meter.{Counts, Costs}
+use Rattle.lts.proofs.CallerLemmas.{labels_have_ids}
 use Rattle.quotient_core.specs.Numbers.{AreClasses}
 
 module _ (A : System) (none : (s t : ℕ) → ¬ Internal A s t) where
@@ -32,11 +32,10 @@ module _ (A : System) (none : (s t : ℕ) → ¬ Internal A s t) where
 -- Suppose that the label table of a system does not contain the internal label. If the blocks are the classes of
 -- strongly bisimilar states, then they are also the classes of branching bisimilar states. If refinement for strong
 -- bisimilarity takes r rounds, then refinement for branching bisimilarity also takes r rounds.
-module _ {l : Grouped} {labels : List (List ℕ)} (numbered : (l : Grouped) (s : ℕ) (a : List ℕ) (t : ℕ) → IsLts l →
-    Step (system_of l) s a t → (k : ℕ) × IsLabelId l.labels k a) (lts : IsLts l) (read : labels ≡ l.labels)
+module _ {l : Grouped} {labels : List (List ℕ)} (lts : IsLts l) (read : labels ≡ l.labels)
     (absent : ¬ Contains labels internal) where
   none : (s t : ℕ) → ¬ Internal (system_of l) s t
-  none s t step = let (k, number) = numbered l s internal t lts step in
+  none s t step = let (k, number) = labels_have_ids l s internal t lts step in
       absent (rw read (k, number.below, sym (get_or_default l.labels k [] internal number.below) ∙ number.text))
 
   pub branching_classes : (blocks : List ℕ) → AreClasses Strong l blocks → AreClasses Branching l blocks

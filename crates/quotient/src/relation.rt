@@ -33,7 +33,6 @@ pub(crate) fn blocks<M: Meter>(
     ensures err { OnErr result
         (CostsUpTo (M.counted m.old) (M.counted m.new) l.now.states (length l.now.places)) }
 {
-    lts::rows_are_steps();
     l.invariants();
     // If the system has no internal label, both relations have the same classes, and refinement takes the same number
     // of rounds for both. In this case, refinement uses strong signatures, because they take less time to compute. Two

@@ -6,8 +6,8 @@ use Rattle.quotient.proofs.relation.blocks.Goals.{in_default-via-in-Branching+in
 pub returns-in_default-clause-classes : goal.returns-in_default-clause-classes
 returns-in_default-clause-classes g c = elim c.in_default.branch [
   | in_default-via-in-Branching+in_default w ↦ rw (w.in_default.is-0)
-      (IfOk-weaker c.refine_blocks-in_default.result _ _ (λ b. branching_classes c.rows_are_steps.ensures.numbered
-      c.invariants.ensures c.labels.ensures w.in_default.ensures b.block_ids)
+      (IfOk-weaker c.refine_blocks-in_default.result _ _ (λ b. branching_classes c.invariants.ensures
+      c.labels.ensures w.in_default.ensures b.block_ids)
       c.refine_blocks-in_default.ensures.bisimilar)
   | in_default-via-in_default w ↦ rw (w.in_default.is-0) c.refine_blocks-in_default.ensures.bisimilar
 ]
@@ -15,7 +15,7 @@ returns-in_default-clause-classes g c = elim c.in_default.branch [
 pub returns-in_default-clause-turns : goal.returns-in_default-clause-turns
 returns-in_default-clause-turns g c = elim c.in_default.branch [
   | in_default-via-in-Branching+in_default w ↦ rw (w.in_default.is-0)
-      (on_ok_weaker c.refine_blocks-in_default.result (branching_turns c.rows_are_steps.ensures.numbered
-      c.invariants.ensures c.labels.ensures w.in_default.ensures) c.refine_blocks-in_default.ensures.turns)
+      (on_ok_weaker c.refine_blocks-in_default.result (branching_turns c.invariants.ensures
+      c.labels.ensures w.in_default.ensures) c.refine_blocks-in_default.ensures.turns)
   | in_default-via-in_default w ↦ rw (w.in_default.is-0) c.refine_blocks-in_default.ensures.turns
 ]
