@@ -1,6 +1,6 @@
 -- The lemmas in this file are about the steps in which a hide list (the labels to hide, one on each line) is read. The
 -- lemmas describe the state of the reader after each step, and justify each error that the reader returns.
-use Rattle.std.proofs.Common.{◌≡◌, ◌⊎◌, ◌↔◌, ⊎_elim, ℕ, ◌+◌, ◌<◌, ◌≤◌, true, List, [], ◌∷◌, ◌++◌, length, Option, Some}
+use Rattle.std.proofs.Common.{◌≡◌, ◌⊎◌, ◌↔◌, ⊎_elim, ℕ, ◌+◌, ◌<◌, ◌≤◌, true, false, List, [], ◌∷◌, ◌++◌, length, Option, Some}
 use Rattle.std.proofs.Common.{Contains, refl, sym, ◌∙◌, inl, inr, arith}
 use Rattle.std.proofs.lemmas.Slice.Zip.{AllZip-long, all_zipped_more}
 use Rattle.std.proofs.lemmas.List.{append_assoc}
@@ -73,10 +73,10 @@ module _ {given : List ℕ} {old : Cutting} {H hidden : List (List ℕ)} (got : 
   -- the next line may still become too long, or that no further line is allowed and the hide list has no error if it
   -- ends here.
   pub hide_failed : (rest : Option (List ℕ)) (failures : ℕ) → length H ≤ MOST_LINES →
-      (length H < MOST_LINES) ⊎ (length (old.ahead ++ got) ≡ 0) → failures ≡ 1 → (old.over ≡ true → ⊥) →
-      IsPart (old.ahead ++ got) → HideRefuses (given ++ got) rest failures Device
-  hide_failed rest failures few unjudged failed goes_on part =
-      let c = HasCut-part given got so_far.lines old so_far.cut goes_on in
+      (length H < MOST_LINES) ⊎ (length (old.ahead ++ got) ≡ 0) → failures ≡ 1 →
+      (old.over ≡ false) × IsPart (old.ahead ++ got) → HideRefuses (given ++ got) rest failures Device
+  hide_failed rest failures few unjudged failed (open_at, part) =
+      let c = HasCut-part given got so_far.lines old so_far.cut open_at in
       failed_source failed refl (λ f. no_judged_hide_fault (given ++ got) so_far.lines (old.ahead ++ got) H f c
       so_far.named few part unjudged)
 
@@ -85,18 +85,18 @@ module _ {given : List ℕ} {old : Cutting} {H hidden : List (List ℕ)} (got : 
   -- the first error of the hide list still depends on the bytes that may follow. The reason for this is that the hide
   -- list has no error if no further line follows.
   pub hide_end_failed :
-      (rest : Option (List ℕ)) (failures : ℕ) → length H ≡ MOST_LINES → failures ≡ 1 → (old.over ≡ true → ⊥) →
-      old.ahead ++ got ≡ [] → HideRefuses (given ++ got) rest failures Device
-  hide_end_failed rest failures count failed goes_on none = grind (arith, hide_failed, All-nil)
+      (rest : Option (List ℕ)) (failures : ℕ) → length H ≡ MOST_LINES → failures ≡ 1 →
+      (old.over ≡ false) × (old.ahead ++ got ≡ []) → HideRefuses (given ++ got) rest failures Device
+  hide_end_failed rest failures count failed (open_at, none) = grind (arith, hide_failed, All-nil)
 
   -- If the next line is the label a, then the labels that have been read after this line are the labels that had been
   -- read before it, followed by a.
   pub hide_good :
-      (now : Cutting) (a : List ℕ) (hidden' : List (List ℕ)) → (old.over ≡ true → ⊥) → CutsLine (old.ahead ++ got) now →
+      (now : Cutting) (a : List ℕ) (hidden' : List (List ℕ)) → (old.over ≡ false) × CutsLine (old.ahead ++ got) now →
       Hides now.line a → Interns hidden a hidden' → HideReadSoFar (given ++ got) now (H ++ a ∷ []) hidden'
-  hide_good now a hidden' goes_on cuts names added = record {
+  hide_good now a hidden' cuts names added = record {
     lines = so_far.lines ++ now.line ∷ [];
-    cut = HasCut-line given got so_far.lines old so_far.cut goes_on now cuts;
+    cut = HasCut-line given got so_far.lines old so_far.cut now cuts;
     named = all_zipped_more Hides so_far.lines H now.line a so_far.named names;
     same = SameLabels-add hidden H a hidden' so_far.same added;
   }
@@ -120,31 +120,30 @@ module _ {given : List ℕ} {old : Cutting} {H hidden : List (List ℕ)} (got : 
 
     -- If the next line of the hide list (a file with one label to hide on each line) is too long, then the reader may
     -- return `LineTooLong` with the number of this line.
-    pub hide_too_long : found < MOST_LINES → (old.over ≡ true → ⊥) → BeginsTooLong (old.ahead ++ got) →
+    pub hide_too_long : found < MOST_LINES → (old.over ≡ false) × BeginsTooLong (old.ahead ++ got) →
         HideRefuses (given ++ got) rest failures (LineTooLong (found + 1))
-    hide_too_long few goes_on long =
+    hide_too_long few long =
         refused_behind (LineTooLong (found + 1)) tt (omega arith) (λ more told.
-        let (line, others, big, l) = HasCut-too_long given got so_far.lines old so_far.cut goes_on more long in
+        let (line, others, big, l) = HasCut-too_long given got so_far.lines old so_far.cut more long in
         (line, others, l, inl (few, LineFault.too_long refl big)))
 
     -- If the hide list (a file with one label to hide on each line) has a line after the last line that is allowed,
     -- then the reader may return `TooManyHidden`.
-    pub hide_behind : found ≡ MOST_LINES → (old.over ≡ true → ⊥) → 1 ≤ length (old.ahead ++ got) →
+    pub hide_behind : found ≡ MOST_LINES → (old.over ≡ false) × (1 ≤ length (old.ahead ++ got)) →
         HideRefuses (given ++ got) rest failures TooManyHidden
-    hide_behind all goes_on some =
+    hide_behind all some =
         refused_behind TooManyHidden tt (omega arith) (λ more told.
-        let (line, others, l) = HasCut-more given got so_far.lines old so_far.cut goes_on more some in
+        let (line, others, l) = HasCut-more given got so_far.lines old so_far.cut more some in
         (line, others, l, inr (omega arith, refl)))
 
     -- If the next line of the hide list (a file with one label to hide on each line) has an error, then the reader may
     -- return this error.
-    pub hide_faulty : (now : Cutting) (fault : Fault) → found < MOST_LINES → (old.over ≡ true → ⊥) →
-        (now.over ≡ true → IsAtEnd rest) →
-        CutsLine (old.ahead ++ got) now → HideFault (found + 1) now.line fault → IsHideFault fault →
-        HideRefuses (given ++ got) rest failures fault
-    hide_faulty now fault few goes_on end cuts bad kind =
+    pub hide_faulty : (now : Cutting) (fault : Fault) → found < MOST_LINES → (now.over ≡ true → IsAtEnd rest) →
+        (old.over ≡ false) × CutsLine (old.ahead ++ got) now → HideFault (found + 1) now.line fault →
+        IsHideFault fault → HideRefuses (given ++ got) rest failures fault
+    hide_faulty now fault few end cuts bad kind =
         refused_behind fault kind (omega arith) (λ more told.
-        let s = HasCut-line given got so_far.lines old so_far.cut goes_on now cuts in
+        let s = HasCut-line given got so_far.lines old so_far.cut now cuts in
         let l = s more (λ over. none_to_come rest more told (end over)) in
         let others = lines_of (now.ahead ++ more) in
         (now.line, others, l ∙ append_assoc so_far.lines (now.line ∷ []) others, inl (few, bad)))

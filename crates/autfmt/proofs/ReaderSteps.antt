@@ -1,8 +1,8 @@
 -- The lemmas in this file are about the steps in which a system is read. The lemmas describe the state of the reader
 -- after each step, and justify each error that the reader returns.
-use Rattle.std.proofs.Common.{◌≡◌, ◌⊎◌, ℕ, ◌+◌, ◌<◌, ◌≤◌, Bool, true, false, List, [], ◌∷◌, ◌++◌, length, Option, Some}
+use Rattle.std.proofs.Common.{◌≡◌, ◌⊎◌, ℕ, ◌+◌, ◌<◌, ◌≤◌, true, false, List, [], ◌∷◌, ◌++◌, length, Option, Some}
 use Rattle.std.proofs.Common.{IfSome, Result, Ok, Err, IfOk, IfErr, MatchResult, refl, sym, ◌∙◌, ap, subst, inl, inr}
-use Rattle.std.proofs.Common.{arith, rules}
+use Rattle.std.proofs.Common.{arith}
 use Rattle.std.proofs.lemmas.List.{append_assoc, append-nil}
 use Rattle.std.proofs.lemmas.List.Elements.{All-nil}
 use Rattle.std.proofs.lemmas.Slice.Zip.{all_zipped_more}
@@ -14,7 +14,7 @@ use Rattle.autfmt.specs.declared.held.Held.{Held}
 use Rattle.autfmt.specs.declared.judge.Promise.{Promise}
 use Rattle.autfmt.specs.Bounds.{Bounds}
 use Rattle.autfmt.specs.Grammar.{TransitionLine}
-use Rattle.autfmt.specs.Texts.{lines_of, Lines, GoodHeader, Reads}
+use Rattle.autfmt.specs.Texts.{lines_of, Lines, IsShort, GoodHeader, Reads}
 use Rattle.autfmt.specs.Faults.{LineFault, HeaderFault, EdgeFault, EdgesFault, FirstFault}
 use Rattle.autfmt.specs.Cutter.{Cutting, HasCut, CutsLine, CutsEnd, BeginsTooLong, IsPart}
 use Rattle.autfmt.specs.Held.{Holds}
@@ -35,17 +35,8 @@ fresh = record { line = []; ahead = []; over = false }
 HasCut-fresh : (old : Cutting) → old ≡ fresh → HasCut [] [] old
 HasCut-fresh old e more end = rw e refl
 
-pub fresh_goes_on : (old : Cutting) → old ≡ fresh → old.over ≡ true → ⊥
-fresh_goes_on old e over = let f = ap (λ (c : Cutting). c.over) e in cc
-
--- `ReadSoFar` states which transitions the reader has read from the bytes `given`. Suppose that two states of the line
--- splitter differ only in the line that was split off last. If `ReadSoFar` holds for one of these two states, then
--- `ReadSoFar` holds for the other state.
-pub whatever_line :
-    (bounds : Bounds) (given line other ahead : List ℕ) (over : Bool) (p : Promise) (es : List Transition) →
-    ReadSoFar bounds given (record { line = line; ahead = ahead; over = over }) p es →
-    ReadSoFar bounds given (record { line = other; ahead = ahead; over = over }) p es
-whatever_line bounds given line other ahead over p es so_far = search rules
+pub fresh_open : (old : Cutting) → old ≡ fresh → old.over ≡ false
+fresh_open old e = ap (λ (c : Cutting). c.over) e
 
 -- A source is the object from which the input is read. Suppose that every list of bytes that may still be read from a
 -- source has a certain property. If the contract of the source states which bytes are still to be read, then the list
@@ -77,7 +68,7 @@ module _ (bounds : Bounds) (old : Cutting) (got : List ℕ) (rest : Option (List
       (if_told rest (λ more. FirstFault bounds (got ++ more) (LineTooLong 1))
       (λ more told.
       let (line, others, big, l) =
-      HasCut-too_long [] got [] old (HasCut-fresh old new) (fresh_goes_on old new) more long in
+      HasCut-too_long [] got [] old (HasCut-fresh old new) more (fresh_open old new, long) in
       record { first = rw l (inl (LineFault.too_long refl big)) }))
 
   -- If the line splitter has split off line 1, then the result of checking this line is correct: either line 1 is a
@@ -90,7 +81,7 @@ module _ (bounds : Bounds) (old : Cutting) (got : List ℕ) (rest : Option (List
   header_answer now (Ok p) sound end cuts good bad kind = record {
     header = now.line;
     lines = [];
-    cut = HasCut-line [] got [] old (HasCut-fresh old new) (fresh_goes_on old new) now cuts;
+    cut = HasCut-line [] got [] old (HasCut-fresh old new) now (fresh_open old new, cuts);
     good = good;
     spelled = tt;
   }
@@ -98,7 +89,7 @@ module _ (bounds : Bounds) (old : Cutting) (got : List ℕ) (rest : Option (List
       faulty_text sound kind
       (if_told rest (λ more. FirstFault bounds (got ++ more) fault)
       (λ more told.
-      let s = HasCut-line [] got [] old (HasCut-fresh old new) (fresh_goes_on old new) now cuts in
+      let s = HasCut-line [] got [] old (HasCut-fresh old new) now (fresh_open old new, cuts) in
       let l = s more (λ over. none_to_come rest more told (end over)) in
       record { first = rw l (inl bad) }))
 
@@ -137,10 +128,10 @@ module _ {bounds : Bounds} {given : List ℕ} {old : Cutting} {p : Promise} {es 
   -- next line may still become too long, or that all transitions have been read and the input has no error if it ends
   -- here.
   pub transition_failed : (rest : Option (List ℕ)) (failures : ℕ) → length es ≤ p.transitions →
-      (length es < p.transitions) ⊎ (length (old.ahead ++ got) ≡ 0) → failures ≡ 1 → (old.over ≡ true → ⊥) →
-      IsPart (old.ahead ++ got) → Refuses bounds (given ++ got) rest failures Device
-  transition_failed rest failures few unjudged failed goes_on part =
-      let c = HasCut-part given got before old so_far.cut goes_on in
+      (length es < p.transitions) ⊎ (length (old.ahead ++ got) ≡ 0) → failures ≡ 1 →
+      (old.over ≡ false) × IsPart (old.ahead ++ got) → Refuses bounds (given ++ got) rest failures Device
+  transition_failed rest failures few unjudged failed (open_at, part) =
+      let c = HasCut-part given got before old so_far.cut open_at in
       failed_source failed refl
       (λ f. no_judged_fault bounds (given ++ got) so_far.header so_far.lines (old.ahead ++ got) p.first
       p.transitions p.states es f
@@ -151,32 +142,30 @@ module _ {bounds : Bounds} {given : List ℕ} {old : Cutting} {p : Promise} {es 
   -- error only if the first error of the input still depends on the bytes that may follow. The reason for this is that
   -- the input has no error if no further line follows.
   pub end_failed :
-      (rest : Option (List ℕ)) (failures : ℕ) → length es ≡ p.transitions → failures ≡ 1 → (old.over ≡ true → ⊥) →
-      old.ahead ++ got ≡ [] → Refuses bounds (given ++ got) rest failures Device
-  end_failed rest failures count failed goes_on none = grind (arith, transition_failed, goes_on, All-nil)
+      (rest : Option (List ℕ)) (failures : ℕ) → length es ≡ p.transitions → failures ≡ 1 →
+      (old.over ≡ false) × (old.ahead ++ got ≡ []) → Refuses bounds (given ++ got) rest failures Device
+  end_failed rest failures count failed (open_at, none) = grind (arith, transition_failed, All-nil)
 
   -- Suppose that the next line denotes a transition e, and that the source and the target of e are states of the
   -- system. Then the transitions that have been read are the transitions before this line and e.
-  pub transition_good : (now : Cutting) (e : Transition) → (old.over ≡ true → ⊥) → CutsLine (old.ahead ++ got) now →
-      TransitionLine now.line e.source e.label e.target → IsAmong p.states e →
-      ReadSoFar bounds (given ++ got) now p (es ++ e ∷ [])
-  transition_good now e goes_on cuts spelled among = record {
+  pub transition_good : (line : List ℕ) (now : Cutting) (e : Transition) →
+      HasCut (given ++ got) (before ++ line ∷ []) now → IsShort line → TransitionLine line e.source e.label e.target →
+      IsAmong p.states e → ReadSoFar bounds (given ++ got) now p (es ++ e ∷ [])
+  transition_good line now e cut short spelled among = record {
     header = so_far.header;
-    lines = so_far.lines ++ now.line ∷ [];
-    cut = HasCut-line given got before old so_far.cut goes_on now cuts;
+    lines = so_far.lines ++ line ∷ [];
+    cut = cut;
     good = so_far.good;
-    spelled = grind (arith, all_zipped_more, p.states, so_far.lines, now.line, so_far.spelled, cuts.short);
+    spelled = grind (arith, all_zipped_more, p.states, so_far.lines, line, so_far.spelled);
   }
 
   -- If an allocation fails while the next transition is stored, then the reader may return `Memory`.
   pub transition_refused :
-      (now : Cutting) (rest : Option (List ℕ)) (failures : ℕ) → failures ≡ 0 → (old.over ≡ true → ⊥) →
-      (now.over ≡ true → IsAtEnd rest) → CutsLine (old.ahead ++ got) now →
-      Refuses bounds (given ++ got) rest failures Memory
-  transition_refused now rest failures sound goes_on end cuts =
+      (now : Cutting) (rest : Option (List ℕ)) (failures : ℕ) → failures ≡ 0 → (now.over ≡ true → IsAtEnd rest) →
+      (old.over ≡ false) × CutsLine (old.ahead ++ got) now → Refuses bounds (given ++ got) rest failures Memory
+  transition_refused now rest failures sound end cuts =
       no_memory_behind bounds (given ++ got) so_far.header (so_far.lines ++ now.line ∷ []) now p.first p.transitions
-      p.states rest failures
-      (HasCut-line given got before old so_far.cut goes_on now cuts) so_far.good sound end
+      p.states rest failures (HasCut-line given got before old so_far.cut now cuts) so_far.good sound end
 
   -- Assume that the source (the object from which the input is read) has not failed. If the contract of the source
   -- states which bytes the source contains, each error that the reader returns must then be the first error of the
@@ -205,35 +194,31 @@ module _ {bounds : Bounds} {given : List ℕ} {old : Cutting} {p : Promise} {es 
         ([], rw (none_to_come rest more told (end cuts.over), append-nil, append-nil before) l, (promised, refl)))
 
     -- If the next line of the input is too long, then the reader may return `LineTooLong` with the number of this line.
-    pub transition_too_long : found < p.transitions → (old.over ≡ true → ⊥) → BeginsTooLong (old.ahead ++ got) →
+    pub transition_too_long : found < p.transitions → (old.over ≡ false) × BeginsTooLong (old.ahead ++ got) →
         Refuses bounds (given ++ got) rest failures (LineTooLong (found + 2))
-    transition_too_long promised goes_on long =
+    transition_too_long promised long =
         refused_behind (LineTooLong (found + 2)) tt (omega arith) (λ more told.
-        let (line, others, big, l) = HasCut-too_long given got before old so_far.cut goes_on more long in
+        let (line, others, big, l) = HasCut-too_long given got before old so_far.cut more long in
         (line ∷ others, l, inl (inl (promised, LineFault.too_long refl big))))
 
     -- If there is a line after the last transition that the header declares, then the reader may return `ExtraText`.
-    pub text_behind : found ≡ p.transitions → (old.over ≡ true → ⊥) → 1 ≤ length (old.ahead ++ got) →
+    pub text_behind : found ≡ p.transitions → (old.over ≡ false) × (1 ≤ length (old.ahead ++ got)) →
         Refuses bounds (given ++ got) rest failures (ExtraText (found + 2))
-    text_behind all goes_on some =
+    text_behind all some =
         refused_behind (ExtraText (found + 2)) tt (omega arith) (λ more told.
-        let (line, others, l) = HasCut-more given got before old so_far.cut goes_on more some in
+        let (line, others, l) = HasCut-more given got before old so_far.cut more some in
         (line ∷ others, l, inl (inr (omega arith, refl))))
 
     -- If the next line of the input has an error, then the reader may return this error.
-    pub transition_faulty : (now : Cutting) (fault : Fault) → found < p.transitions → (old.over ≡ true → ⊥) →
-        (now.over ≡ true → IsAtEnd rest) →
-        CutsLine (old.ahead ++ got) now → EdgeFault p.states (found + 2) now.line fault → IsTextFault fault →
-        Refuses bounds (given ++ got) rest failures fault
-    transition_faulty now fault promised goes_on end cuts bad kind =
+    pub transition_faulty : (now : Cutting) (fault : Fault) → found < p.transitions → (now.over ≡ true → IsAtEnd rest) →
+        (old.over ≡ false) × CutsLine (old.ahead ++ got) now → EdgeFault p.states (found + 2) now.line fault →
+        IsTextFault fault → Refuses bounds (given ++ got) rest failures fault
+    transition_faulty now fault promised end cuts bad kind =
         refused_behind fault kind (omega arith) (λ more told.
-        let s = HasCut-line given got before old so_far.cut goes_on now cuts in
+        let s = HasCut-line given got before old so_far.cut now cuts in
         let l = s more (λ over. none_to_come rest more told (end over)) in
         let others = lines_of (now.ahead ++ more) in
         (now.line ∷ others, l ∙ append_assoc before (now.line ∷ []) others, inl (inl (promised, bad))))
-
-pub goes_on : {over : Bool} → over ≡ false → over ≡ true → ⊥
-goes_on open_at over = cc
 
 -- Suppose that transitions have been read from the bytes `before`, and that one more transition has then been read from
 -- the bytes `line`. Then all these transitions have been read from the bytes `before` followed by the bytes `line`.

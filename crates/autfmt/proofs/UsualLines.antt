@@ -1,8 +1,8 @@
 -- The module `usual` is a fast path that reads transitions in their most common written forms. If the module reads a
 -- transition at the beginning of some bytes, then the first line of these bytes denotes this transition.
-use Rattle.std.proofs.Common.{◌≡◌, ◌≢◌, ℕ, ◌+◌, ◌^◌, ◌<◌, ◌≤◌, true, false, not, eqb, List, [], ◌∷◌, ◌++◌, length}
+use Rattle.std.proofs.Common.{◌≡◌, ◌≢◌, ℕ, ◌+◌, ◌^◌, ◌<◌, ◌≤◌, not, eqb, List, [], ◌∷◌, ◌++◌, length}
 use Rattle.std.proofs.Common.{get_or, take, drop, map, codes, decimal, Some, refl, sym, ap, ◌∙◌, inl, inr, append_assoc}
-use Rattle.std.proofs.Common.{append-nil, length-append, Bool, arith}
+use Rattle.std.proofs.Common.{Bool, arith}
 use Rattle.std.specs.Char.{is_ascii_digit}
 use Rattle.std.specs.List.{prefix_len}
 use lib.Count.{count_trailing_zeros}
@@ -17,7 +17,6 @@ use Rattle.std.proofs.lemmas.List.Elements.{All-from_recursion}
 use Rattle.std.proofs.lemmas.List.Sums.{prefix_len_passes}
 use Rattle.theory.specs.System.{IsLabel}
 use Rattle.autfmt.specs.Grammar.{Blanks, quoted}
-use Rattle.autfmt.specs.Cutter.{Cutting, CutsLine}
 use Rattle.autfmt.specs.Reading.{past, plain_at}
 use Rattle.autfmt.specs.Usual.{AreDigitsInFront, BeginsWithNumber, FollowsComma, FollowsEnd, HasMark, BeginsWithLabel}
 use Rattle.autfmt.specs.Usual.{BeginsWithTransition}
@@ -25,7 +24,7 @@ use Rattle.autfmt.proofs.Blanks.{IsBlank}
 use Rattle.autfmt.proofs.Numbers.{digit-range}
 use Rattle.autfmt.proofs.Labels.{quoted-append}
 use Rattle.autfmt.proofs.PlainLabels.{plain_at-takes}
-use Rattle.autfmt.proofs.Lines.{past-takes, TransitionLine-one}
+use Rattle.autfmt.proofs.Lines.{past-takes}
 use Rattle.autfmt.proofs.ReadBack.{none, a_space, spelled_line, spelled_line-short, spaced_line}
 
 -- ---- Numbers
@@ -135,26 +134,3 @@ transition_in_front bytes r0 r1 r2 r3 r4 r5 r6 s a t e0 source e1 (spelling, lab
       spelled = grind (arith, spaced_line, b, d, z, before, between, last);
       short = spelled_line-short s t b d z spelling a source.0 target.0 short short' few label;
     }
-
--- The line splitter (`Cutter`) divides the input into lines. If the list `bytes` begins with the line of a transition
--- (`BeginsWithTransition`), `behind` is the state of the line splitter after it has split off this line.
-abbrev pub behind : {bytes : List ℕ} {s : ℕ} {a : List ℕ} {t : ℕ} {rest : List ℕ} →
-    BeginsWithTransition bytes s a t rest → Cutting
-behind {rest = rest} front = record { line = front.line; ahead = rest; over = false }
-
--- If the list `bytes` begins with the line of a transition, the line splitter can split off this line without reading
--- further bytes from the source (the object from which the input is read).
-pub cuts_in_front : (bytes : List ℕ) (s : ℕ) (a : List ℕ) (t : ℕ) (rest : List ℕ) →
-    (front : BeginsWithTransition bytes s a t rest) → CutsLine (bytes ++ []) (behind front)
-cuts_in_front bytes s a t rest front = record {
-  one = TransitionLine-one front.line s a t front.spelled;
-  short = front.short;
-  behind = inl (refl, append-nil bytes ∙ front.whole);
-}
-
--- Suppose that the bytes that are not yet divided into lines begin with the line of a transition. Then the line
--- splitter has not recorded that the source (the object from which the input is read) has ended.
-pub goes_on_in_front : (bytes : List ℕ) (s : ℕ) (a : List ℕ) (t : ℕ) (rest : List ℕ) (over : Bool) →
-    BeginsWithTransition bytes s a t rest → (over ≡ true → bytes ≡ []) → over ≡ true → ⊥
-goes_on_in_front bytes s a t rest over front ended e =
-    omega (arith, ap length (sym front.whole ∙ ended e), length-append front.line (10 ∷ rest))

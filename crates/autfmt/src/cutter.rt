@@ -104,8 +104,7 @@ impl Cutter {
     /// chunk at the indices i with from <= i < to.
     #[inline(always)]
     pub(crate) fn ahead(&self) -> &[u8]
-        ensures ahead { result.now ≡ self.now.ahead }
-        ensures open { IsTrue self.now.over → result.now ≡ [] }
+        ensures { result.now ≡ self.now.ahead }
     {
         &self.chunk[self.from..self.to]
     }
@@ -184,8 +183,7 @@ impl Cutter {
     pub(crate) fn is_at_end<R: Source>(&mut self, r: &mut R) -> Result<bool, Broken>
         requires { R.failures r.old ≡ 0 }
         ensures look { (got : List ℕ) × Consumes (R.rest r.old) (R.rest r.new) got ×
-            Peeks (self.old.ahead ++ got) result self.new }
-        ensures over { IsTrue self.old.over → result ≡ Ok true }
+            Peeks self.old.over (self.old.ahead ++ got) result self.new }
         ensures end { (IsTrue self.old.over → IsAtEnd (R.rest r.old)) →
             IsTrue self.new.over → IsAtEnd (R.rest r.new) }
         ensures failures { CountsFailure result (R.failures r.new) }

@@ -1,7 +1,6 @@
 use Rattle.std.proofs.Common.{inl, arith}
 use Rattle.std.proofs.lemmas.List.{length_push}
 use Rattle.std.proofs.lemmas.Result.{err_from_is_err_and}
-use Rattle.autfmt.proofs.ReaderSteps.{goes_on}
 use Rattle.autfmt.proofs.HideSteps.{hide_too_long, hide_ends, hide_failed, hide_good, hide_faulty}
 use Rattle.autfmt.proofs.hide_reader.read_hide_line.Goals as goal
 
@@ -14,14 +13,14 @@ returns-in_err-advance-clause-line g c =
       s.0,
       s.1,
       λ given H so_far count. rw (exit.1, exit.2) (hide_failed s.0 so_far _ _ (omega arith) (inl (omega arith)) failed
-          (goes_on s.2.0) s.2.1),
+          s.2),
     )
 
 pub returns-in-TooLong-clause-line : goal.returns-in-TooLong-clause-line
 returns-in-TooLong-clause-line g c =
     let s = rw c.in-TooLong.is at c.in_ok-advance.ensures.step in
     let sound = c.in_ok-advance.ensures.failures in
-    (s.0, s.1, λ given H so_far count. hide_too_long s.0 so_far _ _ _ count sound c.requires.more (goes_on s.2.0) s.2.1)
+    (s.0, s.1, λ given H so_far count. hide_too_long s.0 so_far _ _ _ count sound c.requires.more s.2)
 
 pub returns-in-End-clause-line : goal.returns-in-End-clause-line
 returns-in-End-clause-line g c =
@@ -36,8 +35,8 @@ returns-in_err-label-clause-line g c =
       s.0,
       s.1,
       λ given H so_far count. rw (exit.1, exit.2)
-          (hide_faulty s.0 so_far _ _ _ count c.in_ok-advance.ensures.failures _ _ c.requires.more (goes_on s.2.0)
-          (c.advance.ensures.end c.requires.source.end) s.2.1 (rw c.line.ensures at c.in_err-label.ensures.fault)
+          (hide_faulty s.0 so_far _ _ _ count c.in_ok-advance.ensures.failures _ _ c.requires.more
+          (c.advance.ensures.end c.requires.source.end) s.2 (rw c.line.ensures at c.in_err-label.ensures.fault)
           c.in_err-label.ensures.kind),
     )
 
@@ -50,7 +49,7 @@ returns-clause-line g c =
       s.1,
       λ given H so_far count. (
         a,
-        hide_good s.0 so_far _ a _ (goes_on s.2.0) s.2.1 good c.in_ok-add.ensures.added,
+        hide_good s.0 so_far _ a _ s.2 good c.in_ok-add.ensures.added,
       ),
     )
 

@@ -1,10 +1,10 @@
-use Rattle.std.proofs.Common.{◌≡◌, ◌+◌, ℕ, Bool, true, false, List, [], ◌∷◌, ◌++◌, length, Result, Ok, ◌∙◌, ap, refl}
+use Rattle.std.proofs.Common.{◌≡◌, ◌+◌, ℕ, List, [], ◌∷◌, ◌++◌, length, Ok, ◌∙◌, ap, refl}
 use Rattle.std.proofs.Common.{arith}
 use Rattle.std.proofs.lemmas.List.{length_push}
 use Rattle.std.proofs.lemmas.Result.{err_from_is_err_and}
 use Rattle.std.proofs.KnownBytes.{Consumes-nil, Consumes-trans}
 use Rattle.autfmt.proofs.HideSteps.{HideReadSoFar-new, hide_ends, hide_behind, hide_end_failed}
-use Rattle.autfmt.proofs.ReaderSteps.{fresh_goes_on}
+use Rattle.autfmt.proofs.ReaderSteps.{fresh_open}
 use Rattle.autfmt.proofs.Taking.{takes_more}
 use Rattle.autfmt.proofs.hide_reader.read_labels.Goals as goal
 
@@ -16,7 +16,7 @@ loop-found-init g c =
       few = let e = ap length c.none-hidden.ensures in omega arith;
       source = record {
         sound = c.requires;
-        end = λ over. absurd (fresh_goes_on c.new-cutter.result c.new-cutter.ensures over);
+        end = λ over. let open_at = fresh_open c.new-cutter.result c.new-cutter.ensures in absurd cc;
       };
     }
 
@@ -56,23 +56,14 @@ returns-in_err-at_end g c =
     let exit = err_from_is_err_and c.from_residual-in_err-at_end.result c.from_residual-in_err-at_end.ensures.1 in
     rw (exit.1, exit.2)
     (takes_more _ _ _ _ _ _ before last taken took
-    (hide_end_failed last so_far _ _ (omega arith) c.in_err-at_end.ensures.failures
-    (λ over. let a = c.is_at_end.ensures.over over in let b = c.in_err-at_end.was in cc) none))
-
--- If the function `is_at_end` has returned true, then it has not returned false, because its result cannot have both
--- values.
-not_both : {E : Type 0} (r : Result Bool E) (at_end : Bool) → r ≡ Ok true → r ≡ Ok at_end → at_end ≡ false → ⊥
-not_both r at_end found was not = cc
+    (hide_end_failed last so_far _ _ (omega arith) c.in_err-at_end.ensures.failures none))
 
 pub returns-then-not-at_end : goal.returns-then-not-at_end
 returns-then-not-at_end g c =
     let (before, taken, H, so_far, count) = c.loop-found.invariant.got in
     let last = rw c.if-not-at_end.true at c.in_ok-at_end.ensures.look in
     takes_more _ _ _ _ _ _ before last.0 taken last.1
-    (hide_behind last.0 so_far _ _ _ count c.in_ok-at_end.ensures.failures (omega arith)
-    (λ over. not_both c.is_at_end.result c.in_ok-at_end.at_end (c.is_at_end.ensures.over over) c.in_ok-at_end.was
-    c.if-not-at_end.true)
-    (last.2.3 refl))
+    (hide_behind last.0 so_far _ _ _ count c.in_ok-at_end.ensures.failures (omega arith) (last.2.3 refl))
 
 pub returns : goal.returns
 returns g c =

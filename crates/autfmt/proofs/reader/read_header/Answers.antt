@@ -1,5 +1,5 @@
 use Rattle.std.proofs.lemmas.Result.{err_from_is_err_and}
-use Rattle.autfmt.proofs.ReaderSteps.{fresh_goes_on, header_failed, header_too_long, header_answer}
+use Rattle.autfmt.proofs.ReaderSteps.{fresh_open, header_failed, header_too_long, header_answer}
 use Rattle.autfmt.proofs.reader.read_header.Goals as goal
 
 pub returns-in_err-advance-clause-header : goal.returns-in_err-advance-clause-header
@@ -26,7 +26,7 @@ returns-in-TooLong-clause-header g c =
 pub returns-clause-header : goal.returns-clause-header
 returns-clause-header g c =
     let s = rw c.in-Line.is at c.in_ok-advance.ensures.step in
-    let end = c.advance.ensures.end (λ over. absurd (fresh_goes_on c.args.cutter.now c.requires.fresh over)) in
+    let end = c.advance.ensures.end (λ over. let open_at = fresh_open c.args.cutter.now c.requires.fresh in absurd cc) in
     record {
       given = s.0;
       took = s.1;

@@ -57,8 +57,7 @@ returns-in_err-at_end-clause-whole g c =
       given = front g at ++ last.0;
       took = took g at last.0 last.1;
       outcome = rw (exit.1, exit.2)
-          (end_failed last.0 (transitions g at).1.0 _ _ (count g at) c.in_err-at_end.ensures.failures
-          (λ over. let a = c.is_at_end.ensures.over over in let b = c.in_err-at_end.was in cc) last.2);
+          (end_failed last.0 (transitions g at).1.0 _ _ (count g at) c.in_err-at_end.ensures.failures last.2);
     }
 
 pub returns-then-not-at_end-clause-whole : goal.returns-then-not-at_end-clause-whole
@@ -70,8 +69,6 @@ returns-then-not-at_end-clause-whole g c =
       took = took g at last.0 last.1;
       outcome =
           text_behind last.0 (transitions g at).1.0 _ _ _ (count g at) c.in_ok-at_end.ensures.failures refl
-          (λ over. let a = c.is_at_end.ensures.over over in let b = c.in_ok-at_end.was in
-          let d = c.if-not-at_end.true in cc)
           (last.2.3 refl);
     }
 

@@ -1,10 +1,11 @@
-use Rattle.std.proofs.Common.{◌≡◌, List, length, inl, arith}
+use Rattle.std.proofs.Common.{◌≡◌, List, ◌∷◌, length, inl, arith}
 use Rattle.std.proofs.lemmas.Result.{err_from_is_err_and}
 use Rattle.theory.specs.System.{Transition, IsAmong}
 use Rattle.autfmt.specs.Held.{Holds}
 use Rattle.autfmt.proofs.Holding.{Holds-add}
+use Rattle.autfmt.proofs.HasCut.{HasCut-line}
 use Rattle.autfmt.proofs.ReaderSteps.{transition_too_long, transition_missing, transition_failed, transition_good}
-use Rattle.autfmt.proofs.ReaderSteps.{transition_faulty, transition_refused, goes_on, count_held}
+use Rattle.autfmt.proofs.ReaderSteps.{transition_faulty, transition_refused, count_held}
 use Rattle.autfmt.proofs.reader.read_transition.Given.{Over}
 use Rattle.autfmt.proofs.reader.read_transition.Goals as goal
 use Rattle.autfmt.proofs.reader.read_transition.Goals.{After-advance, In_ok-read}
@@ -24,8 +25,7 @@ returns-in_err-advance-clause-transition g c =
       s.0,
       s.1,
       λ bounds given es standing. let e = count g at es standing.1 in
-          rw (p.1, p.2) (transition_failed s.0 standing.0 _ _ (omega arith) (inl (omega arith)) failed
-          (goes_on s.2.0) s.2.1),
+          rw (p.1, p.2) (transition_failed s.0 standing.0 _ _ (omega arith) (inl (omega arith)) failed s.2),
     )
 
 pub returns-in-TooLong-clause-transition : goal.returns-in-TooLong-clause-transition
@@ -36,7 +36,7 @@ returns-in-TooLong-clause-transition g c =
       s.0,
       s.1,
       λ bounds given es standing.
-          transition_too_long s.0 standing.0 _ _ _ (count g at es standing.1) sound (omega arith) (goes_on s.2.0) s.2.1,
+          transition_too_long s.0 standing.0 _ _ _ (count g at es standing.1) sound (omega arith) s.2,
     )
 
 pub returns-in-End-clause-transition : goal.returns-in-End-clause-transition
@@ -61,8 +61,7 @@ returns-in_err-read-clause-transition g c =
       s.1,
       λ bounds given es standing. rw (p.1, p.2)
           (transition_faulty s.0 standing.0 _ _ _ (count g at es standing.1) c.in_ok-advance.ensures.failures
-          _ _ (omega arith)
-          (goes_on s.2.0) (c.advance.ensures.end c.requires.source.end) s.2.1 bad c.in_err-read.ensures.kind),
+          _ _ (omega arith) (c.advance.ensures.end c.requires.source.end) s.2 bad c.in_err-read.ensures.kind),
     )
 
 pub returns-in_err-add-clause-transition : goal.returns-in_err-add-clause-transition
@@ -73,7 +72,7 @@ returns-in_err-add-clause-transition g c =
       s.0,
       s.1,
       λ bounds given es standing. rw (p.1, p.2)
-          (transition_refused s.0 standing.0 _ _ _ c.in_ok-advance.ensures.failures (goes_on s.2.0) end s.2.1),
+          (transition_refused s.0 standing.0 _ _ _ c.in_ok-advance.ensures.failures end s.2),
     )
 
 -- If the reader has checked a transition successfully, then the source and the target of this transition are states of
@@ -97,7 +96,9 @@ returns-clause-transition g c =
       s.0,
       s.1,
       λ bounds given es standing.
-          let so_far = transition_good s.0 standing.0 _ e (goes_on s.2.0) s.2.1 good among in
+          let before = standing.0.header ∷ standing.0.lines in
+          let cut = HasCut-line given s.0 before c.args.cutter.now standing.0.cut _ s.2 in
+          let so_far = transition_good s.0 standing.0 _ _ e cut s.2.1.short good among in
           let added = c.in_ok-add.ensures.added standing.1.shown in
           (e, (so_far, Holds-add _ _ _ _ es e standing.1 among added)),
     )
