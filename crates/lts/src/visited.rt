@@ -86,7 +86,7 @@ impl Visited {
         self.below == 0 && self.places.is_empty()
     }
 
-    /// Empties the set at the beginning of a round. The memory of the set is not freed, so that later rounds can use it
+    /// Empties the set at the end of a round. The memory of the set is not freed, so that later rounds can use it
     /// again.
     pub fn clear(&mut self)
         ensures { self.new ≡ [] }

@@ -34,9 +34,8 @@ list_of signatures signature_ids s = list_at signatures (slice_index signature_i
 -- list `signatures` contains the signatures in the order of their IDs. For each state, `signature_ids` contains the ID
 -- of the split signature of the state: the split separates two states of a block if their split signatures differ. For
 -- each state, `cached` contains the ID of the signature that is cached from round to round. The field `index` is `None`
--- until the predecessor index is built. The list `visited` contains the places of the transitions that were visited in
--- this round. A visit is a read of a transition that the meter counts. The place of a transition is its index in the
--- list of all transitions.
+-- until the predecessor index is built. The list `visited` contains the places (indices in the list of all transitions)
+-- of the transitions that were visited in this round. A visit is a read of a transition that the meter counts.
 pub record Signed : Type 0 where
   pub blocks : RoundBlocks
   pub signatures : List (List (ℕ × ℕ))
@@ -145,12 +144,13 @@ pub record IsAtRound (rel : Relation) (l : Grouped) (old : Option (List ℕ)) (r
 -- `Awaits` holds if r, the data of a round (`Signed`), is ready for a new round. The data r must satisfy `IsAtRound`.
 -- The field `old` contains the block IDs of all states in the last round, or is `None` if no round has run yet. If
 -- there is a predecessor index, a round must have run before, and for branching bisimilarity, the signatures of the
--- last round must be cached (`CachesIds`).
+-- last round must be cached (`CachesIds`). No transition may have been visited in the new round (`none`).
 pub record Awaits (rel : Relation) (l : Grouped) (r : Signed) : Type 0 where
   pub old : Option (List ℕ)
   pub is : IsAtRound rel l old r
   pub later : ¬ (r.index ≡ None) → ¬ (old ≡ None)
       × (rel ≡ Branching → CachesIds l r.blocks.block_ids r.signatures r.cached old)
+  pub none : r.visited ≡ []
 
 -- `IsReadyToSign` holds if r, the data of a round (`Signed`), is ready for computing the signatures of the active
 -- states. The active states are the states that the round processes. The data r must satisfy `IsAtRound`. The field

@@ -260,15 +260,6 @@ impl SignedBlocks {
         false
     }
 
-    /// Empties the set of the transitions that were visited (read and counted) in the last round. Each round calls this
-    /// function at its beginning.
-    pub fn clear_visited(mut self) -> SignedBlocks
-        ensures { result ≡ record self { visited = [] } }
-    {
-        self.visited.clear();
-        self
-    }
-
     /// Searches the predecessor index `predecessors` for the active states of this round, which are the states that the
     /// round processes. The index is stored in the returned data. The search starts at the states of new blocks, which
     /// are the blocks that the last split has made, and looks up the transitions that lead to these states. For
@@ -282,7 +273,6 @@ impl SignedBlocks {
         m: &mut M,
     ) -> Result<SignedBlocks, Memory>
         requires awaits { Awaits relation l.now (record self { index = Some predecessors }) }
-        requires none { self.visited ≡ [] }
         requires room { HasRoomFor (M.counted m.old) 0 (length l.now.places) }
 
         // On success
@@ -338,13 +328,15 @@ impl SignedBlocks {
     }
 
     /// Splits the blocks. Two states of a block stay together if and only if `signature_ids` contains the same ID for
-    /// both states.
-    pub(crate) fn split(self) -> Result<SignedBlocks, Memory>
+    /// both states. For the next round, the function empties the set of the transitions that were visited (read and
+    /// counted) in this round.
+    pub(crate) fn split(mut self) -> Result<SignedBlocks, Memory>
         requires ids { AreIds self.signatures self.signature_ids }
-        ensures same { IfOk result (λ q. q ≡ record self { blocks = q.blocks }) }
+        ensures same { IfOk result (λ q. q ≡ record self { blocks = q.blocks; visited = [] }) }
         ensures split { IfOk result
             (λ q. AreSplitBlocks self.blocks self.signature_ids q.blocks) }
     {
+        self.visited.clear();
         let stored = self.signatures.len();
         let blocks = self.blocks.split(self.alloc, stored, &self.signature_ids)?;
         Ok(SignedBlocks { blocks, ..self })

@@ -108,16 +108,15 @@ pub(crate) fn sign_and_visit_rest<S: Signing, M: Meter>(
     Ok(signed)
 }
 
-/// Begins a round: empties the set of visited transitions, and finds the active states (the states that the round
-/// processes). If too many signatures are stored, the function discards all signatures, and activates all states that
-/// have an outgoing transition and are not in a singleton block (`SignedBlocks::activate_all`). Otherwise, if there is
-/// a predecessor index, the function searches this index for the active states (`SignedBlocks::find_active`). If there
-/// is no predecessor index, the active states stay the same. In this case, the function calls
-/// `Signing::discard_cached`, and builds the index if this round is late (if few blocks are new) and the earlier late
-/// rounds have done enough work (`SignedBlocks::begin_index`).
+/// Begins a round: finds the active states (the states that the round processes). If too many signatures are stored,
+/// the function discards all signatures, and activates all states that have an outgoing transition and are not in a
+/// singleton block (`SignedBlocks::activate_all`). Otherwise, if there is a predecessor index, the function searches
+/// this index for the active states (`SignedBlocks::find_active`). If there is no predecessor index, the active states
+/// stay the same. In this case, the function calls `Signing::discard_cached`, and builds the index if this round is
+/// late (if few blocks are new) and the earlier late rounds have done enough work (`SignedBlocks::begin_index`).
 pub(crate) fn begin_round<S: Signing, M: Meter>(
     l: &Lts<M>,
-    round: SignedBlocks,
+    mut round: SignedBlocks,
     m: &mut M,
 ) -> Result<SignedBlocks, Memory>
     requires ready_for_round { Awaits S.relation l.now round }
@@ -133,7 +132,6 @@ pub(crate) fn begin_round<S: Signing, M: Meter>(
     // Always
     ensures cost { Costs (M.counted m.old) (M.counted m.new) 0 0 (length l.now.places) }
 {
-    let mut round = round.clear_visited();
     if round.signatures.len() > round.most_signatures {
         return round.activate_all(l);
     }

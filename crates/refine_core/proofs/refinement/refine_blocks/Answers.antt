@@ -29,6 +29,7 @@ loop-before-init g c =
           index = rw c.in_ok-round.ensures.absent tt;
         };
         later = λ some. absurd (some c.in_ok-round.ensures.absent);
+        none = c.in_ok-round.ensures.none;
       };
       made = rw is
           (record { rounds = 0; fewer = omega arith; past = []; were = (one, tt); underway = on; costs = omega arith });
@@ -45,7 +46,7 @@ next_round-requires-clause-ready_for_round g c =
       | inl one ↦ ⊎_map (λ one. one) inl (c.in_ok-before.ensures.leaves.are s one)
       | inr other ↦ inr other
     ] in
-    rw c.in_ok-before.ensures.same (record { old = a.old; is = search (rules, a.is, all); later = a.later })
+    rw c.in_ok-before.ensures.same (record { old = a.old; is = search (rules, a.is, all); later = a.later; none = a.none })
 
 pub next_round-requires-clause-room : goal.next_round-requires-clause-room
 next_round-requires-clause-room g c =
