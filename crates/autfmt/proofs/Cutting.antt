@@ -96,31 +96,27 @@ pub Divides-end : (given : List ℕ) (lines : List (List ℕ)) (rest : List ℕ)
 Divides-end given lines [] divides none = divides [] ∙ append-nil lines
 Divides-end given lines (b ∷ rest) divides none = absurd (omega arith)
 
--- `Grows lines longer` holds if each line in the list `lines` is a prefix of the line at the same index of the list
--- `longer`, and all lines before this index are the same in both lists.
-abbrev Grows : List (List ℕ) → List (List ℕ) → Type 0
-Grows lines longer = (front others : List (List ℕ)) (line : List ℕ) → lines ≡ front ++ line ∷ others →
-    (tail : List ℕ) × (others' : List (List ℕ)) × (longer ≡ front ++ (line ++ tail) ∷ others')
+-- `Grows lines longer` holds if the list `longer` begins with the lines of the list `lines`, except that bytes may have
+-- been appended to the last of these lines.
+abbrev pub Grows : List (List ℕ) → List (List ℕ) → Type 0
+Grows [] longer = Unit
+Grows (line ∷ []) longer = (tail : List ℕ) × (others : List (List ℕ)) × (longer ≡ (line ++ tail) ∷ others)
+Grows (line ∷ next ∷ lines) longer = (others : List (List ℕ)) × (longer ≡ line ∷ others) × Grows (next ∷ lines) others
 
 Grows-feed : (lines longer : List (List ℕ)) → Grows lines longer → Grows ([] ∷ lines) ([] ∷ longer)
-Grows-feed lines longer grows [] others line e = ([], longer, cc)
-Grows-feed lines longer grows (f ∷ front) others line e = let (t, os, h) = grows front others line (cc) in (t, os, cc)
+Grows-feed [] longer grows = ([], longer, refl)
+Grows-feed (line ∷ lines) longer grows = (longer, refl, grows)
 
 Grows-byte : (b : ℕ) (lines longer : List (List ℕ)) → Grows lines longer →
     Grows (onto_first b lines) (onto_first b longer)
-Grows-byte b [] [] grows [] others line e = ([], [], cc)
-Grows-byte b [] (l ∷ longer) grows [] others line e = (l, longer, cc)
-Grows-byte b [] longer grows (f ∷ front) others line e =
-    absurd (omega (arith, ap length e, length-append front (line ∷ others)))
-Grows-byte b (l ∷ lines) longer grows [] others line e = let (t, os, h) = grows [] lines l refl in (t, os, rw h (cc))
-Grows-byte b (l ∷ lines) longer grows (f ∷ front) others line e =
-    let (t, os, h) = grows (l ∷ front) others line (cc) in (t, os, rw h (cc))
+Grows-byte b [] [] grows = ([], [], refl)
+Grows-byte b [] (line ∷ longer) grows = (line, longer, refl)
+Grows-byte b (line ∷ []) longer (tail, others, e) = (tail, others, rw e refl)
+Grows-byte b (line ∷ next ∷ lines) longer (others, e, grows) = (others, rw e refl, grows)
 
--- If bytes are appended to a text, then each line of the text is a prefix of the line at the same index of the longer
--- text.
+-- If bytes are appended to a text, then these bytes extend the last line of the text or are on further lines.
 pub line_grows : (given more : List ℕ) → Grows (lines_of given) (lines_of (given ++ more))
-line_grows [] more = λ front others line e.
-    absurd (omega (arith, ap length e, length-append front (line ∷ others)))
+line_grows [] more = tt
 line_grows (b ∷ given) more =
     let grows = line_grows given more in
     elim (cases_eq b 10) [

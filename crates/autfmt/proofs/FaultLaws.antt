@@ -1,20 +1,31 @@
 -- Every input denotes exactly one system, or has exactly one first error, which is the error that is reported. No input
--- denotes a system and has a first error.
-use Rattle.std.proofs.Common.{◌≡◌, ◌⊎◌, ⊎_elim, ℕ, ◌+◌, ◌≤◌, List, [], ◌∷◌, length, refl, sym, ◌∙◌, subst, inl, inr}
-use Rattle.std.proofs.Common.{arith}
+-- denotes a system and has a first error. The bytes at the beginning of an input may already show which error is the
+-- first error of the input, so that this error does not depend on the bytes that follow. The last part of this file
+-- proves for which bytes the first error is known in this way, and for which bytes it still depends on the bytes that
+-- follow.
+use Rattle.std.proofs.Common.{◌≡◌, ◌⊎◌, ⊎_elim, ℕ, ◌+◌, ◌<◌, ◌≤◌, List, [], ◌∷◌, ◌++◌, length, refl, sym, ◌∙◌, subst}
+use Rattle.std.proofs.Common.{inl, inr, arith, All, rules}
 use Rattle.std.specs.List.{AllZip}
 use Rattle.std.proofs.lemmas.Bool.{cases_lt}
+use Rattle.std.proofs.lemmas.List.{append_assoc, length-append}
+use Rattle.std.proofs.lemmas.List.Elements.{All-nil, All-cons, All-head, All-tail}
 use Rattle.theory.specs.System.{System, Transition}
 use Rattle.autfmt.specs.declared.fault.Fault.{Fault}
-use Rattle.autfmt.specs.declared.fault.Fault.TheVariants.{BadHeader, ExtraText, MissingEdges}
+use Rattle.autfmt.specs.declared.fault.Fault.TheVariants.{BadHeader, LineTooLong, ExtraText, MissingEdges}
 use Rattle.autfmt.specs.Bounds.{Bounds}
-use Rattle.autfmt.specs.Texts.{lines_of, Lines, GoodHeader, SpellsTransition, SpellsAmong, Reads}
-use Rattle.autfmt.specs.Faults.{EdgeFault, EndFault, EdgesFault, LinesFault, FirstFault}
+use Rattle.autfmt.specs.Texts.{lines_of, Lines, IsShort, GoodHeader, SpellsTransition, SpellsAmong, Reads}
+use Rattle.autfmt.specs.Cutter.{IsPart}
+use Rattle.autfmt.specs.Faults.{LineFault, HeaderFault, EdgeFault, EndFault, EdgesFault, LinesFault, FirstFault}
+use Rattle.autfmt.specs.Faults.{JudgedFault}
+use Rattle.autfmt.proofs.Cutting.{Divides, ended_go_on, Grows, line_grows, some_line}
 use Rattle.autfmt.proofs.Decisions.{one_transition}
-use Rattle.autfmt.proofs.Lists.{AllZip-unique}
-use Rattle.autfmt.proofs.FirstFaults.{AreJudged, unique, no_fault, lines_judged}
+use Rattle.autfmt.proofs.Lists.{AllZip-firsts, AllZip-unique}
+use Rattle.autfmt.proofs.FirstFaults.{AreJudged, unique, behind, no_fault, lines_judged, no_long, stays_before, stays}
+use Rattle.autfmt.proofs.FirstFaults.{not_known}
 use Rattle.autfmt.proofs.LineFaults.{HeaderFault-unique, GoodHeader-no_fault, GoodHeader-unique, header_judged}
-use Rattle.autfmt.proofs.LineFaults.{EdgeFault-unique, GoodEdge-no_fault, edge_judged, EdgeFault-long, same_header}
+use Rattle.autfmt.proofs.LineFaults.{HeaderFault-long, EdgeFault-unique, GoodEdge-no_fault, edge_judged, EdgeFault-long}
+use Rattle.autfmt.proofs.LineFaults.{same_header}
+use Rattle.autfmt.specs.declared.line.TheConstants.{LONGEST_LINE}
 
 -- Each line after the header of an input is correct or has exactly one error. The header declares m transitions and n
 -- states.
@@ -37,18 +48,11 @@ pub LinesFault-unique : (bounds : Bounds) (lines : List (List ℕ)) (f g : Fault
     LinesFault bounds lines g → f ≡ g
 LinesFault-unique bounds [] f g a b = a ∙ sym b
 LinesFault-unique bounds (line ∷ others) f g (inl a) (inl b) = HeaderFault-unique bounds line f g a b
-LinesFault-unique bounds (line ∷ others) f g (inl a) (inr (i, m, n, good, b)) =
-    absurd (GoodHeader-no_fault bounds line i m n f good a)
-LinesFault-unique bounds (line ∷ others) f g (inr (i, m, n, good, a)) (inl b) =
-    absurd (GoodHeader-no_fault bounds line i m n g good b)
+LinesFault-unique bounds (line ∷ others) f g (inl a) (inr (i, m, n, good, b)) = search (rules, GoodHeader-no_fault)
+LinesFault-unique bounds (line ∷ others) f g (inr (i, m, n, good, a)) (inl b) = search (rules, GoodHeader-no_fault)
 LinesFault-unique bounds (line ∷ others) f g (inr (i, m, n, good, a)) (inr (i', m', n', good', b)) =
     unique (edges m n) m 0 others f g a
     (same_header bounds line i' m' n' i m n (λ x y. EdgesFault x y 0 others g) good' good b)
-
--- An input has at most one first error (`FirstFault`).
-pub FirstFault-unique :
-    (bounds : Bounds) (text : List ℕ) (f g : Fault) → FirstFault bounds text f → FirstFault bounds text g → f ≡ g
-FirstFault-unique bounds text f g a b = LinesFault-unique bounds (lines_of text) f g a.first b.first
 
 -- A line denotes at most one transition.
 one_spelled : (line : List ℕ) (d e : Transition) → SpellsTransition line d → SpellsTransition line e → d ≡ e
@@ -96,13 +100,7 @@ pub Reads-from_lines :
     (bounds : Bounds) (text line : List ℕ) (lines : List (List ℕ)) (f m n : ℕ) (es : List Transition) →
     Lines text (line ∷ lines) → GoodHeader bounds line f m n → AllZip (SpellsAmong n) lines es → length es ≡ m →
     Reads bounds text (record { first = f; states = n; transitions = es })
-Reads-from_lines bounds text line lines f m n es l g good count = record {
-  header = line;
-  lines = lines;
-  whole = l;
-  good = subst (λ (k : ℕ). GoodHeader bounds line f k n) (sym count) g;
-  spelled = good;
-}
+Reads-from_lines bounds text line lines f m n es l g good count = grind arith
 
 -- Every input denotes a system or has an error (`FirstFault`).
 pub text_judged : (bounds : Bounds) (text : List ℕ) →
@@ -110,11 +108,6 @@ pub text_judged : (bounds : Bounds) (text : List ℕ) →
 text_judged bounds text =
     ⊎_elim (λ read. inl read) (λ bad. inr (bad.0, record { first = bad.1 })) (judged (lines_of text) refl)
   where
-    -- The header declares as many transitions as there are lines after it.
-    counted : (m i : ℕ) → i ≤ m → ((f : Fault) → EndFault m i f → ⊥) → i ≡ m
-    counted m i few none =
-        ⊎_elim (λ less. absurd (none (MissingEdges i) (less, refl))) (λ full. omega arith) (cases_lt i m)
-
     judged : (lines : List (List ℕ)) → Lines text lines →
         ((A : System) × Reads bounds text A) ⊎ ((fault : Fault) × LinesFault bounds lines fault)
     judged [] l = inr (BadHeader, refl)
@@ -123,10 +116,106 @@ text_judged bounds text =
       | inl (f, m, n, good) ↦ elim (lines_judged (edges m n) m 0 all (omega arith)) [
         | inr (fault, bad) ↦ inr (fault, inr (f, m, n, good, bad))
         | inl (es, (spelled, i, e, few, none)) ↦
-            let full = counted m i few none in
+            let whole : i < m → ⊥ = λ less. none (MissingEdges i) (less, refl) in
             inl (
               record { first = f; states = n; transitions = es },
               Reads-from_lines bounds text line all f m n es l good spelled (omega arith),
             )
       ]
     ]
+
+-- ---- Errors that the bytes at the beginning of an input show
+
+-- If no line of an input is too long, then the first error of the input is not `LineTooLong`.
+LinesFault-no_long : (bounds : Bounds) (lines : List (List ℕ)) (k : ℕ) → All IsShort lines →
+    LinesFault bounds lines (LineTooLong k) → ⊥
+LinesFault-no_long bounds [] k short e = cc
+LinesFault-no_long bounds (line ∷ others) k short (inl bad) =
+    omega (arith, (HeaderFault-long bounds line k bad).0, All-head IsShort line others short)
+LinesFault-no_long bounds (line ∷ others) k short (inr (f, m, n, good, bad)) =
+    no_long (edges m n) m 0 others k (All-tail IsShort line others short) bad
+
+-- Suppose that there is no line feed among the bytes that have been read, and that these bytes are not too long for a
+-- line. Then the first error of the whole input still depends on the bytes that may follow, because line 1 may still
+-- become too long.
+pub no_judged_header : (bounds : Bounds) (given : List ℕ) (fault : Fault) → IsPart given →
+    JudgedFault bounds given fault → ⊥
+no_judged_header bounds given fault part known =
+    not_known (LinesFault bounds) (LinesFault-unique bounds) (LinesFault-no_long bounds) given [] given (λ more. refl)
+    (All-nil IsShort) part (inl (1, λ line long. inl (LineFault.too_long refl long))) fault
+    (λ more. (known more).first)
+
+-- Suppose that the bytes that have been read so far are a correct header, correct transitions on whole lines, and then
+-- the bytes `rest`, which can be a part of the next line (`IsPart`). Suppose also that the header declares further
+-- transitions, or that there are no bytes of the next line. Then the first error of the whole input still depends on
+-- the bytes that may follow. If the header declares further transitions, the next line may still become too long.
+-- Otherwise, the input has no error if it ends here.
+pub no_judged_fault :
+    (bounds : Bounds) (given line : List ℕ) (lines : List (List ℕ)) (rest : List ℕ) (f m n : ℕ) (es : List Transition)
+    (fault : Fault) →
+    Divides given (line ∷ lines) rest → GoodHeader bounds line f m n → AllZip (SpellsAmong n) lines es →
+    length es ≤ m → IsPart rest → (length es < m) ⊎ (length rest ≡ 0) → JudgedFault bounds given fault → ⊥
+no_judged_fault bounds given line lines rest f m n es fault divides good spelled few part unjudged known =
+    not_known (LinesFault bounds) (LinesFault-unique bounds) (LinesFault-no_long bounds) given
+    (line ∷ lines) rest divides
+    (All-cons IsShort line lines good.short
+    (AllZip-firsts (SpellsAmong n) IsShort (λ l e s. s.0.0) lines es spelled))
+    part
+    (⊎_elim (λ less. inl (length es + 2, too_long less))
+    (λ full. inr (
+      ⊎_elim (λ less. absurd (omega arith)) (λ none. none) unjudged,
+      λ g. LinesFault-none bounds line lines f m n es g good spelled (omega arith),
+    ))
+    (cases_lt (length es) m))
+    fault (λ more. (known more).first)
+  where
+    too_long : length es < m → (long : List ℕ) → LONGEST_LINE < length long →
+        LinesFault bounds (line ∷ lines ++ long ∷ []) (LineTooLong (length es + 2))
+    too_long less long big =
+        let same = behind (edges m n) m 0 (length es) lines (long ∷ []) es (LineTooLong (length es + 2)) spelled
+        (omega arith) few in
+        inr (f, m, n, good, same.1 (inl (inl (less, LineFault.too_long refl big))))
+
+-- Suppose that `fault` is the first error of an input, and that `fault` remains the error of a line if further bytes
+-- are appended to the line. Suppose also that `fault` is neither `BadHeader` nor `MissingEdges` (transitions are
+-- missing). Then `fault` remains the first error if further bytes are appended to the input.
+pub FirstFault-stays : (bounds : Bounds) (given more : List ℕ) (fault : Fault) → (fault ≡ BadHeader → ⊥) →
+    ((found : ℕ) → fault ≡ MissingEdges found → ⊥) →
+    ((line tail : List ℕ) → HeaderFault bounds line fault → HeaderFault bounds (line ++ tail) fault) →
+    ((n k : ℕ) (line tail : List ℕ) → EdgeFault n k line fault → EdgeFault n k (line ++ tail) fault) →
+    FirstFault bounds given fault → FirstFault bounds (given ++ more) fault
+FirstFault-stays bounds given more fault some whole header edge bad =
+    record { first = step (lines_of given) (lines_of (given ++ more)) (line_grows given more) bad.first }
+  where
+    step : (lines longer : List (List ℕ)) → Grows lines longer → LinesFault bounds lines fault →
+        LinesFault bounds longer fault
+    step [] longer grows e = absurd (some e)
+    step (line ∷ []) longer (tail, others, e) (inl bad) = rw e (inl (header line tail bad))
+    step (line ∷ []) longer grows (inr (f, m, n, good, bad)) = absurd (whole 0 bad.1)
+    step (line ∷ next ∷ lines) longer (others, e, grows) (inl bad) = rw e (inl bad)
+    step (line ∷ next ∷ lines) longer (others, e, grows) (inr (f, m, n, good, bad)) =
+        rw e (inr (
+          f,
+          m,
+          n,
+          good,
+          stays (edges m n) m fault (λ i lack. whole i lack.1) (λ i. edge n (i + 2)) 0
+              (next ∷ lines) others grows bad,
+        ))
+
+-- Suppose that the bytes that have been read so far end with a line feed. Suppose also that an input that consists of
+-- exactly these bytes has an error, and that its first error is not `MissingEdges` (transitions are missing). Then this
+-- error is the first error of the whole input, whatever bytes follow.
+pub ended_known : (bounds : Bounds) (front : List ℕ) (fault : Fault) → FirstFault bounds (front ++ 10 ∷ []) fault →
+    ((found : ℕ) → fault ≡ MissingEdges found → ⊥) → JudgedFault bounds (front ++ 10 ∷ []) fault
+ended_known bounds front fault bad found more =
+    record { first = rw (append_assoc, ended_go_on front more) (step (lines_of (front ++ 10 ∷ [])) refl bad.first) }
+  where
+    step : (lines : List (List ℕ)) → Lines (front ++ 10 ∷ []) lines → LinesFault bounds lines fault →
+        LinesFault bounds (lines ++ lines_of more) fault
+    step [] l e =
+        let (line, others, some) = some_line (front ++ 10 ∷ []) (omega (arith, length-append front (10 ∷ []))) in
+        absurd cc
+    step (line ∷ others) l (inl h) = inl h
+    step (line ∷ others) l (inr (f, m, n, good, h)) =
+        inr (f, m, n, good, stays_before (edges m n) m 0 others (lines_of more) fault (λ i lack. found i lack.1) h)

@@ -5,15 +5,15 @@ use Rattle.std.proofs.Common.{◌≡◌, ◌≢◌, ◌⊎◌, ◌↔◌, ⊎_el
 use Rattle.std.proofs.Common.{All, refl, sym, ◌∙◌, ap, subst, inl, inr, arith}
 use Rattle.std.specs.List.{AllZip}
 use Rattle.std.proofs.lemmas.Bool.{cases_lt}
-use Rattle.std.proofs.lemmas.List.{append_assoc, append-nil, length-append, length-replicate}
+use Rattle.std.proofs.lemmas.List.{append-nil, length-append, length-replicate}
 use Rattle.std.proofs.lemmas.List.Elements.{All-nil, All-cons, All-head, All-tail, All-append, All-replicate}
 use Rattle.autfmt.specs.declared.fault.Fault.{Fault}
 use Rattle.autfmt.specs.declared.fault.Fault.TheVariants.{LineTooLong}
 use Rattle.autfmt.specs.declared.line.TheConstants.{LONGEST_LINE}
-use Rattle.autfmt.specs.Texts.{lines_of, Lines, IsOneLine, IsShort}
+use Rattle.autfmt.specs.Texts.{lines_of, IsOneLine, IsShort}
 use Rattle.autfmt.specs.Faults.{NextFault, FaultFrom}
 use Rattle.autfmt.specs.Cutter.{IsPart}
-use Rattle.autfmt.proofs.Cutting.{only_line, Divides, Divides-end, line_grows}
+use Rattle.autfmt.proofs.Cutting.{only_line, Divides, Divides-end, Grows}
 
 -- Suppose that an input can be read or has an error, and that it has no error if it can be read. Then the input can be
 -- read if and only if it has no error.
@@ -48,18 +48,15 @@ module _ {X : Type 0} {Good : List ℕ → X → Type 0} {Bad : ℕ → List ℕ
   First = FaultFrom Next Lack
 
   next_unique : (found : ℕ) (line : List ℕ) (f g : Fault) → Next found line f → Next found line g → f ≡ g
-  next_unique found line f g (inl a) (inl b) = law.one found line f g a.1 b.1
-  next_unique found line f g (inl (less, a)) (inr (full, b)) = absurd (omega arith)
-  next_unique found line f g (inr (full, a)) (inl (less, b)) = absurd (omega arith)
-  next_unique found line f g (inr a) (inr b) = a.1 ∙ sym b.1
+  next_unique found line f g a b = let one = law.one found line in grind (arith, one)
 
   -- Lines have at most one first error.
   pub unique : (found : ℕ) (lines : List (List ℕ)) (f g : Fault) → First found lines f → First found lines g → f ≡ g
   unique found [] f g a b = law.one_lack found f g a b
-  unique found (line ∷ others) f g (inl a) (inl b) = next_unique found line f g a b
-  unique found (line ∷ others) f g (inl a) (inr (none, b)) = absurd (none f a)
-  unique found (line ∷ others) f g (inr (none, a)) (inl b) = absurd (none g b)
-  unique found (line ∷ others) f g (inr (none, a)) (inr (none', b)) = unique (found + 1) others f g a b
+  unique found (line ∷ others) f g a b =
+      let next = next_unique found line f g in
+      let behind = unique (found + 1) others f g in
+      grind (arith, next, behind)
 
   next_good : (found : ℕ) (line : List ℕ) (x : X) → found < most → Good line x → (f : Fault) → Next found line f → ⊥
   next_good found line x less good f (inl bad) = law.apart found line x f good bad.1
@@ -124,22 +121,19 @@ module _ {X : Type 0} {Good : List ℕ → X → Type 0} {Bad : ℕ → List ℕ
   stays_before found (line ∷ others) more f some (inr (none, bad)) =
       inr (none, stays_before (found + 1) others more f some bad)
 
-  -- Suppose that the text `given` consists of the lines `front` and `lines`, and that f is the first error in `lines`.
-  -- Suppose also that f is not the error that the input ends too early, and that f remains the error of a line if
-  -- further bytes are appended to the line. If the bytes `more` are appended to the text, then the text consists of the
-  -- lines `front` and of lines in which f is the first error.
-  pub stays : (given more : List ℕ) (f : Fault) → ((i : ℕ) → Lack i f → ⊥) →
+  -- Suppose that f is the first error of lines, and that f is not the error that the input ends too early. Suppose also
+  -- that f remains the error of a line if bytes are appended to the line. Then f remains the first error if bytes are
+  -- appended to the last line, or if further lines follow.
+  pub stays : (f : Fault) → ((i : ℕ) → Lack i f → ⊥) →
       ((i : ℕ) (line tail : List ℕ) → Bad i line f → Bad i (line ++ tail) f) →
-      (found : ℕ) (front lines : List (List ℕ)) → Lines given (front ++ lines) → First found lines f →
-      (lines' : List (List ℕ)) × Lines (given ++ more) (front ++ lines') × First found lines' f
-  stays given more f some longer found front [] l bad = absurd (some found bad)
-  stays given more f some longer found front (line ∷ others) l (inl bad) =
-      let (tail, others', l') = line_grows given more front others line l in
-      ((line ++ tail) ∷ others', l', inl (⊎_elim (λ b. inl (b.0, longer found line tail b.1)) (λ b. inr b) bad))
-  stays given more f some longer found front (line ∷ others) l (inr (none, bad)) =
-      let next = l ∙ sym (append_assoc front (line ∷ []) others) in
-      let (others', l', bad') = stays given more f some longer (found + 1) (front ++ line ∷ []) others next bad in
-      (line ∷ others', l' ∙ append_assoc front (line ∷ []) others', inr (none, bad'))
+      (found : ℕ) (lines longer : List (List ℕ)) → Grows lines longer → First found lines f → First found longer f
+  stays f some wider found [] longer grows bad = absurd (some found bad)
+  stays f some wider found (line ∷ []) longer (tail, others, e) (inl bad) =
+      rw e (inl (⊎_elim (λ b. inl (b.0, wider found line tail b.1)) (λ b. inr b) bad))
+  stays f some wider found (line ∷ []) longer grows (inr (none, bad)) = absurd (some (found + 1) bad)
+  stays f some wider found (line ∷ next ∷ lines) longer (others, e, grows) (inl bad) = rw e (inl bad)
+  stays f some wider found (line ∷ next ∷ lines) longer (others, e, grows) (inr (none, bad)) =
+      rw e (inr (none, stays f some wider (found + 1) (next ∷ lines) others grows bad))
 
 -- Suppose that lines have at most one first error (`HasFirst`), and that this error is `LineTooLong` only if some line
 -- is too long. Let `given` be the bytes that have been read so far. Suppose that these bytes consist of the lines

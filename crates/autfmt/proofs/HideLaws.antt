@@ -13,7 +13,7 @@ use Rattle.autfmt.specs.HideLists.{Hides, HideReads, HideFault, HidesFault, Firs
 use Rattle.autfmt.proofs.Lists.{AllZip-firsts, AllZip-unique}
 use Rattle.autfmt.proofs.FirstFaults.{AreJudged, unique, behind, no_fault, lines_judged, no_long, stays_before, stays}
 use Rattle.autfmt.proofs.FirstFaults.{not_known}
-use Rattle.autfmt.proofs.Cutting.{Divides, ended_go_on}
+use Rattle.autfmt.proofs.Cutting.{Divides, ended_go_on, line_grows}
 use Rattle.autfmt.specs.Faults.LineFault.{too_long}
 use Rattle.autfmt.proofs.LineFaults.{LineFault-unique, LineFault-not_good, line_judged}
 use Rattle.autfmt.proofs.Decisions.{one_hide_line, hide_line_reader}
@@ -22,7 +22,7 @@ use Rattle.autfmt.specs.declared.limits.TheConstants.{MOST_LINES}
 
 -- If a line of a hide list (a file with one label to hide on each line) has the error `LineTooLong`, then the line is
 -- too long, and this error remains its error if further bytes are appended to the line.
-HideFault-long : (k : ℕ) (line : List ℕ) (j : ℕ) → HideFault k line (LineTooLong j) →
+pub HideFault-long : (k : ℕ) (line : List ℕ) (j : ℕ) → HideFault k line (LineTooLong j) →
     (LONGEST_LINE < length line) × ((tail : List ℕ) → HideFault k (line ++ tail) (LineTooLong j))
 HideFault-long k line j bad =
     let (e, long) : (LineTooLong j ≡ LineTooLong k) × (LONGEST_LINE < length line) = grind arith in
@@ -47,10 +47,6 @@ hides = record {
   lacks = λ found. inr (λ f lack. lack);
   lack_long = λ found k lack. lack;
 }
-
--- A text that is read as a hide list (a file with one label to hide on each line) has at most one first error.
-pub FirstHideFault-unique : (text : List ℕ) (f g : Fault) → FirstHideFault text f → FirstHideFault text g → f ≡ g
-FirstHideFault-unique text f g a b = unique hides MOST_LINES 0 (lines_of text) f g a.first b.first
 
 -- A text can be read as a hide list (a file with one label to hide on each line) in at most one way.
 pub HideReads-unique : (text : List ℕ) (H H' : List (List ℕ)) → HideReads text H → HideReads text H' → H ≡ H'
@@ -89,26 +85,13 @@ hide_text_judged text = elim (lines_judged hides MOST_LINES 0 (lines_of text) (o
 -- Suppose that `fault` is the first error of a hide list (a file with one label to hide on each line), and that `fault`
 -- remains the error of a line if further bytes are appended to the line. Then `fault` remains the first error if
 -- further bytes are appended to the hide list.
-FirstHideFault-stays : (given more : List ℕ) (fault : Fault) →
+pub FirstHideFault-stays : (given more : List ℕ) (fault : Fault) →
     ((k : ℕ) (line tail : List ℕ) → HideFault k line fault → HideFault k (line ++ tail) fault) →
     FirstHideFault given fault → FirstHideFault (given ++ more) fault
-FirstHideFault-stays given more fault longer bad =
-    let (lines, l, bad') = stays hides MOST_LINES given more fault (λ i lack. lack) (λ i. longer (i + 1)) 0 []
-    (lines_of given) refl bad.first in
-    record { first = rw l bad' }
-
--- Suppose that the first error of a hide list (a file with one label to hide on each line) is that a line is too long.
--- Then this error remains the first error if further bytes are appended to the hide list.
-pub long_hide_stays : (given more : List ℕ) (k : ℕ) → FirstHideFault given (LineTooLong k) →
-    FirstHideFault (given ++ more) (LineTooLong k)
-long_hide_stays given more k = FirstHideFault-stays given more (LineTooLong k)
-    (λ i line tail bad. (HideFault-long i line k bad).1 tail)
-
--- Suppose that the first error of a hide list (a file with one label to hide on each line) is that it has too many
--- lines. Then this error remains the first error if further bytes are appended to the hide list.
-pub extra_hide_stays : (given more : List ℕ) → FirstHideFault given TooManyHidden →
-    FirstHideFault (given ++ more) TooManyHidden
-extra_hide_stays given more = FirstHideFault-stays given more TooManyHidden (λ i line tail bad. absurd (grind arith))
+FirstHideFault-stays given more fault wider bad = record {
+  first = stays hides MOST_LINES fault (λ i lack. lack) (λ i. wider (i + 1)) 0 (lines_of given)
+      (lines_of (given ++ more)) (line_grows given more) bad.first;
+}
 
 -- Suppose that a text ends with a line feed, and has a first error as a hide list (a file with one label to hide on
 -- each line). Then this error remains the first error if further bytes are appended to the text.

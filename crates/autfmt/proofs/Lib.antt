@@ -10,7 +10,6 @@ pub mod Cutting
 pub mod FirstFaults
 pub mod LineFaults
 pub mod FaultLaws
-pub mod JudgedLaws
 pub mod HideLaws
 pub mod Gathering
 pub mod HasCut

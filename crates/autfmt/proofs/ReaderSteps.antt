@@ -23,8 +23,7 @@ use Rattle.autfmt.specs.Outcomes.{Refuses}
 use Rattle.autfmt.specs.ReadSoFar.{ReadSoFar, HeldSoFar, ReadsOneMore}
 use Rattle.autfmt.specs.Outcomes.Refuses.{no_memory, failed_source, faulty_text}
 use Rattle.autfmt.proofs.FirstFaults.{behind}
-use Rattle.autfmt.proofs.FaultLaws.{edges, Reads-from_lines}
-use Rattle.autfmt.proofs.JudgedLaws.{no_judged_header, no_judged_fault}
+use Rattle.autfmt.proofs.FaultLaws.{edges, Reads-from_lines, no_judged_header, no_judged_fault}
 use Rattle.autfmt.proofs.Holding.{Holds-length}
 use Rattle.autfmt.proofs.HasCut.{HasCut-line, HasCut-too_long, HasCut-end, HasCut-more, HasCut-part}
 

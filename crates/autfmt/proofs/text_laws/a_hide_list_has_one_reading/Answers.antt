@@ -1,9 +1,12 @@
 -- Each clause of the contract of `a_hide_list_has_one_reading` is proved by a lemma in `proofs/HideLaws`.
-use Rattle.autfmt.proofs.HideLaws.{HideReads-unique, FirstHideFault-unique}
+use Rattle.autfmt.specs.Texts.{lines_of}
+use Rattle.autfmt.specs.declared.limits.TheConstants.{MOST_LINES}
+use Rattle.autfmt.proofs.FirstFaults.{unique}
+use Rattle.autfmt.proofs.HideLaws.{hides, HideReads-unique}
 use Rattle.autfmt.proofs.text_laws.a_hide_list_has_one_reading.Goals as goal
 
 pub returns-clause-labels : goal.returns-clause-labels
 returns-clause-labels c = HideReads-unique
 
 pub returns-clause-fault : goal.returns-clause-fault
-returns-clause-fault c = FirstHideFault-unique
+returns-clause-fault c = λ text f g a b. unique hides MOST_LINES 0 (lines_of text) f g a.first b.first
