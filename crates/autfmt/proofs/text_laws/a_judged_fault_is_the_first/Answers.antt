@@ -1,9 +1,6 @@
 -- In the contract of `a_judged_fault_is_the_first`, the clause `first` follows from the definition of `JudgedFault`.
 -- The other clauses are proved by lemmas in `proofs/FaultLaws`: neither the error that a line is too long nor the error
 -- that a line follows the last transition depends on the bytes that follow.
-use `first` follows from the definition of `JudgedFault`. The
--- other clauses are proved by lemmas in `proofs/FaultLaws`: neither the error that a line is too long nor the error that
--- a line follows the last transition depends on the bytes that follow.
 use Rattle.std.proofs.Common.{arith}
 use Rattle.autfmt.specs.declared.fault.Fault.TheVariants.{LineTooLong, ExtraText}
 use Rattle.autfmt.proofs.LineFaults.{HeaderFault-long, EdgeFault-long}
