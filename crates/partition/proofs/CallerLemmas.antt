@@ -2,4 +2,4 @@
 -- proof file of this crate.
 pub use Rattle.partition.proofs.Renumbering.{one_block}
 pub use Rattle.partition.proofs.ActiveStates.{one_in, in_one, one_stays, live_rising, rising_more, rising_later}
-pub use Rattle.partition.proofs.Halving.{halved}
+pub use Rattle.partition.proofs.Spans.{halved}

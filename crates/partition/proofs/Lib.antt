@@ -1,13 +1,7 @@
 pub mod CallerLemmas
 pub mod Renumbering
 pub mod ActiveStates
-pub mod Counting
-pub mod Halving
 pub mod Tallying
-pub mod Arranging
 pub mod Cutting
-pub mod Laying
 pub mod Spans
-pub mod Gathering
-pub mod Moved
-pub mod OneByOne
+pub mod SplitAll
