@@ -8,7 +8,7 @@ use Rattle.lts.specs.Lts.{Triple, source_of, target_of, place_at, system_of, IsL
 use Rattle.lts.specs.Visited.{price, price_between}
 use Rattle.lts.proofs.CallerLemmas.{place_step, price_none, price_one_more}
 use Rattle.inert.specs.Search.{Search, Laws, frame_at, top, IsFrame, IsFollowed, IsHandled, SearchInvariant, OnStack}
-use Rattle.inert.specs.Search.{Frame, Root, Item, Pair, Interned, unseen}
+use Rattle.inert.specs.Search.{Frame, Root, Item, Pair, Interned, unseen, KeepsVisited}
 use Rattle.inert.specs.SearchMoves.{with_pushed, with_item, HandlesStep, ahead, steps, GoesOn}
 use Rattle.inert.specs.declared.lens.Step.TheVariants.{Inert as Goes, Shows}
 use Rattle.inert.specs.Steps.{Under, IsInert, IsStep}
@@ -134,19 +134,20 @@ marked_first places w {m = m} enters (Goes t) low (inr (inl (q, stage, cuts, new
 marked_first places w enters (Goes t) low (inr (inr (id, stage, new, stay))) =
     (with_item (Interned id) w, inr (inr (id, stage, refl, stay)), new)
 
--- The last frame of the search records which outgoing transitions of the current state are still to be read. `Reads`
--- describes a search that has gone from `old` to `new` by reading the transitions at the places (indices) less than k
--- that the last frame of `old` records. It holds if all three of the following conditions hold. First, the search has
--- gone on from `old` to `new` (`GoesOn`). Second, `new` contains the last frame of `old` at the same index, except that
--- the field `next` of this frame is k in `new`. Third, the number of visits (reads that the meter counts) that the
--- search with the data `old` still has to make is the sum of two numbers. The first of these numbers is the number of
--- visits that the search with the data `new` still has to make. The second number is the number of visits that the
--- search has made between `old` and `new`. The number k must be at least the field `next` of the last frame of `old`.
-pub record Reads (u : Under) (signatures : List (List (ℕ × ℕ))) (old new : Search) (k : ℕ) : Type 0 where
-  pub on : GoesOn u signatures signatures old new
-  pub here : frame_at new.frames (length old.frames - 1) ≡ record (top old.frames) { next = k }
-  pub forward : (top old.frames).next ≤ k
-  pub less : ahead u new + price_between u.visited (top old.frames).next k ≡ ahead u old
+-- Each frame belongs to a state on the stack, and records which outgoing transitions of this state are still to be
+-- read. `Reads` describes a search that has gone from `old` to `new` by reading the transitions at the places (indices)
+-- less than k that the frame x records. It holds if all three of the following conditions hold. First, the search has
+-- gone on from `old` to `new` (`GoesOn`). Second, `new` contains the frame x at the index i, except that the field
+-- `next` of this frame is k in `new`. Third, the number of visits (reads that the meter counts) that the search with
+-- the data `old` still has to make is the sum of two numbers. The first of these numbers is the number of visits that
+-- the search with the data `new` still has to make. The second number is the number of visits that the search has made
+-- between `old` and `new`. The number k must be at least the field `next` of x.
+pub record Reads (u : Under) (signatures : List (List (ℕ × ℕ))) (old new : Search) (i : ℕ) (x : Frame) (k : ℕ) : Type 0
+  where
+    pub on : GoesOn u signatures signatures old new
+    pub here : frame_at new.frames i ≡ record x { next = k }
+    pub forward : x.next ≤ k
+    pub less : ahead u new + price_between u.visited x.next k ≡ ahead u old
 
 -- A frame records which outgoing transitions of a state on the stack are still to be read. The search has the data
 -- `old` at one point, and the data `new` at another point. `Stays` holds if the stack, the number of frames and the
@@ -157,34 +158,35 @@ pub record Stays (old new : Search) : Type 0 where
   pub stack : new.stack ≡ old.stack
   pub unseen : unseen new.stages ≡ unseen old.stages
 
--- The last frame of the search records which outgoing transitions of the current state are still to be read. `Marked`
--- holds if the search has gone from `old` to `new` by reading the transitions at the places (indices) up to and
--- including k that the last frame of `old` records. If the flag `enters` is false, no state was pushed, and `Stays`
--- holds. If the flag `enters` is true, the value of `steps` has decreased. This value is an upper bound for the number
--- of states that the search still pushes plus the number of frames that it still pops.
-pub record Marked (u : Under) (signatures : List (List (ℕ × ℕ))) (old new : Search) (k : ℕ) (enters : Bool) : Type 0
-  where
-    pub reads : Reads u signatures old new (k + 1)
-    pub stays : ¬ IsTrue enters → Stays old new
-    pub nearer : IsTrue enters → steps new < steps old
+-- `Marked` is about a search that reads the transitions that the frame x records. The search has the data `first`
+-- before it reads the first of these transitions, and it has the data `old` before it reads the transition at the place
+-- (index) k and the data `new` after this. `Marked` holds if the search has gone from `first` to `new` by reading the
+-- transitions up to and including k (`Reads`), and if completed states stay completed. If the flag `enters` is false,
+-- no state was pushed, and `Stays` holds. If the flag `enters` is true, the value of `steps` has decreased. This value
+-- is an upper bound for the number of states that the search still pushes plus the number of frames that it still pops.
+pub record Marked (u : Under) (signatures : List (List (ℕ × ℕ))) (first old new : Search) (i : ℕ) (x : Frame) (k : ℕ)
+    (enters : Bool) : Type 0 where
+  pub reads : Reads u signatures first new i x (k + 1)
+  pub seen : KeepsVisited old.stages new.stages
+  pub stays : ¬ IsTrue enters → Stays old new
+  pub nearer : IsTrue enters → steps new < steps old
 
 pub reads_none : {u : Under} {signatures : List (List (ℕ × ℕ))} {w : Search} → SearchInvariant u signatures w
-    → 0 < length w.frames → Reads u signatures w w (top w.frames).next
+    → 0 < length w.frames → Reads u signatures w w (length w.frames - 1) (top w.frames) (top w.frames).next
 reads_none {u = u} {w = w} walks some =
     let on = stays_on {old = w} walks refl in grind (arith, on, some, price_none u.visited)
 
-module _ {u : Under} {signatures : List (List (ℕ × ℕ))} {first w : Search} {k : ℕ}
-    (reads : Reads u signatures first w k)
-    (stays : Stays first w) (some : 0 < length first.frames) where
+module _ {u : Under} {signatures : List (List (ℕ × ℕ))} {first w : Search} {i k : ℕ} {x : Frame}
+    (reads : Reads u signatures first w i x k) (size : length w.frames ≡ i + 1) where
   now_some : 0 < length w.frames
-  now_some = omega (arith, stays.size, some)
+  now_some = omega (arith, size)
 
-  top_is : top w.frames ≡ record (top first.frames) { next = k }
-  top_is = ap (λ n. frame_at w.frames (n - 1)) stays.size ∙ reads.here
+  top_is : top w.frames ≡ record x { next = k }
+  top_is = let last : length w.frames - 1 ≡ i = omega (arith, size) in ap (frame_at w.frames) last ∙ reads.here
 
   -- These lemmas assume that the transition at the place k (the index k in the list of all transitions) is processed
   -- next.
-  module _ (laws : Laws) (lts : IsLts u.l) (more : k < (top first.frames).end) where
+  module _ (laws : Laws) (lts : IsLts u.l) (more : k < x.end) where
     -- A visit is a read of a transition that the meter counts. Reading the transition at the place (index) k takes 0 or
     -- 1 visits. This number of visits is at most the number of visits that the search still has to make.
     pub next_ahead : price u.visited k ≤ ahead u w
@@ -194,50 +196,49 @@ module _ {u : Under} {signatures : List (List (ℕ × ℕ))} {first w : Search} 
         (omega (arith, here, more, ap (λ y. y.end) top_is)) in
         omega (arith, most, ap (price u.visited) here)
 
-    module _ (block : ℕ) (is_block : block ≡ slice_index u.blocks (slice_index first.stack (top first.frames).height))
-        (step : TakenStep) (is_step : IsStep u block (place_at u.l.places k) step) {i : ℕ}
-        (last : i ≡ length first.frames - 1) {x : Frame} (is : x ≡ record (frame_at w.frames i) { next = k + 1 }) where
-      same_last : i ≡ length w.frames - 1
-      same_last = omega (arith, stays.size, last)
+    module _ (block : ℕ) {stack : List ℕ} (same_stack : w.stack ≡ stack)
+        (is_block : block ≡ slice_index u.blocks (slice_index stack x.height))
+        (step : TakenStep) (is_step : IsStep u block (place_at u.l.places k) step) {j : ℕ} (last : j ≡ i) {y : Frame}
+        (is : y ≡ record (frame_at w.frames j) { next = k + 1 }) where
+      same_last : j ≡ length w.frames - 1
+      same_last = omega (arith, size, last)
 
       -- Suppose that the search has read the transitions of the current state at the places (indices) less than k. It
       -- then first processes the transition at the place k, and afterwards marks it as read. After both steps, the
       -- condition `Marked` holds, which includes the invariant of the search.
       taken_first : (m : Search) (enters : Bool) → HandlesStep u.l.places step w m enters
-          → Marked u signatures first (record m { frames = set m.frames i x }) k enters
+          → Marked u signatures first w (record m { frames = set m.frames j y }) i x k enters
       taken_first m enters takes =
           let at = ap (λ y. y.next) top_is in
           let now_more : k < (top w.frames).end = omega (arith, ap (λ y. y.end) top_is, more) in
           let from = source laws lts reads.on.walks now_some at now_more in
           let same_block : block ≡ slice_index u.blocks (source_of (place_at u.l.places k)) =
-          grind (arith, is_block, top_is, stays.stack, from) in
+          grind (arith, is_block, top_is, same_stack, from) in
           let took = taken laws lts reads.on.walks now_some at now_more step m enters
           (rw same_block at is_step) takes in
-          let same_frame : frame_at m.frames i ≡ record (top first.frames) { next = k } =
+          let same_frame : frame_at m.frames j ≡ record x { next = k } =
           ap (frame_at m.frames) same_last ∙ took.same_frame ∙ top_is in
-          let low : i < length m.frames =
-          grind (arith, cases_Bool enters, took.longer, took.still, stays.size, last, some) in
-          let is_next : x ≡ record (frame_at m.frames i) { next = k + 1 } =
+          let low : j < length m.frames = grind (arith, cases_Bool enters, took.longer, took.still, size, last) in
+          let is_next : y ≡ record (frame_at m.frames j) { next = k + 1 } =
           grind (arith, is, same_last, top_is, same_frame) in
           let next = ap (λ y. y.next) same_frame in
-          let before : k < (frame_at m.frames i).end = omega (arith, more, ap (λ y. y.end) same_frame) in
+          let before : k < (frame_at m.frames j).end = omega (arith, more, ap (λ y. y.end) same_frame) in
           let done = subst (λ (y : Frame). IsHandled u signatures m y.height (place_at u.l.places k))
           (top_is ∙ sym same_frame) took.done in
           let walks = SearchInvariant-next took.on.walks low is_next next before done in
           let on = goes_on (goes_on reads.on took.on) (stays_on walks refl) in
-          let here : frame_at (set m.frames i x) (length first.frames - 1)
-          ≡ record (top first.frames) { next = k + 1 } =
-          grind (arith, get_or-set_same m.frames i x no_frame low, last, is_next, same_frame) in
-          let remaining = rest-next u.visited m.frames i x low in
-          let one = price_one_more u.visited (top first.frames).next k reads.forward in
-          grind (arith, on, here, remaining, is_next, next, before, took, reads, one, length-set m.frames i x, stays)
+          let here : frame_at (set m.frames j y) i ≡ record x { next = k + 1 } =
+          grind (arith, get_or-set_same m.frames j y no_frame low, last, is_next, same_frame) in
+          let remaining = rest-next u.visited m.frames j y low in
+          let one = price_one_more u.visited x.next k reads.forward in
+          grind (arith, on, here, remaining, is_next, next, before, took, reads, one, length-set m.frames j y)
 
       -- Suppose that the search has read the transitions of the current state at the places (indices) less than k. It
       -- then first marks the transition at the place k as read, and afterwards processes it. Then the invariant of the
       -- search still holds (`Marked`).
       pub marked : {m : Search} {enters : Bool} →
-          HandlesStep u.l.places step (record w { frames = set w.frames i x }) m enters
-          → Marked u signatures first m k enters
+          HandlesStep u.l.places step (record w { frames = set w.frames j y }) m enters
+          → Marked u signatures first w m i x k enters
       marked {enters = enters} takes =
           let (m', takes', is_m) = marked_first u.l.places w enters step (omega (arith, same_last, now_some)) takes in
-          subst (λ y. Marked u signatures first y k enters) (sym is_m) (taken_first m' enters takes')
+          subst (λ m. Marked u signatures first w m i x k enters) (sym is_m) (taken_first m' enters takes')

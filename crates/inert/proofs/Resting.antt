@@ -116,9 +116,9 @@ module _ {u : Under} {before signatures : List (List (ℕ × ℕ))} {active : Li
       }
 
   -- The active states are the states that the round processes. These lemmas make three assumptions. First, each state
-  -- that is not active has the ID 0 in the list `signature_ids`. Second, the list `put` contains, for each active state,
-  -- the ID that was cached for this state before the search. Third, the list `signature_ids` results from `put` when each
-  -- of these IDs is replaced, after the search, by the ID that is used to split the block of the state.
+  -- that is not active has the ID 0 in the list `signature_ids`. Second, the list `put` contains, for each active
+  -- state, the ID that was cached for this state before the search. Third, the list `signature_ids` results from `put`
+  -- when each of these IDs is replaced, after the search, by the ID that is used to split the block of the state.
   module _ (put signature_ids : List ℕ) (none : InactiveHaveNone active signature_ids)
       (were : (i : ℕ) → i < length active → let s = slice_index active i in
       slice_index put s ≡ id_of (stage_at first.stages s))

@@ -2,11 +2,10 @@
 //! active state (each state that the round processes) once.
 ghost use Rattle.std.specs.Prelude.{◌≡◌, ◌+◌, ◌-◌, ◌<◌, ◌≤◌, length, take, drop, IfOk, OnOk};
 ghost use Rattle.lts.specs.Meter.{HasRoomFor, Costs};
-ghost use Rattle.inert.specs.Search.{stage_at, unread, IsFinished, AreOpen, AreInternedItems};
+ghost use Rattle.inert.specs.Search.{stage_at, IsFinished, AreOpen, AreInternedItems};
 ghost use Rattle.inert.specs.Search.{SearchInvariant, Unvisited};
 ghost use Rattle.inert.specs.SearchMoves.{Closes, ahead, steps, HasRead, GoesOn, MakesProgress, IsAtRest};
 ghost use Rattle.inert.specs.SearchMoves.{ReturnsToRest, IsUnionOfItems};
-ghost use Rattle.inert.specs.Steps.{remaining};
 
 use crate::component::intern_items;
 use crate::depth_first_search::{DepthFirstSearch, Root, VisitState};
@@ -27,16 +26,13 @@ impl DepthFirstSearch {
     ) -> Result<(), Memory>
         requires state { (s < lens.now.l.states) × (stage_at self.old.stages s ≡ Unvisited) }
         requires rests { IsAtRest lens.now signatures.old self.old }
-        requires room { HasRoomFor (M.counted m.old) 0
-            (unread (remaining lens.now) self.old.stages) }
+        requires room { HasRoomFor (M.counted m.old) 0 (ahead lens.now self.old) }
         ensures rests { OnOk result
             (ReturnsToRest lens.now signatures.old signatures.new self.old self.new) }
         ensures finished { OnOk result (IsFinished self.new.stages s) }
-        ensures visits { OnOk result
-            ((M.counted m.new).visits + unread (remaining lens.now) self.new.stages
-            ≡ (M.counted m.old).visits + unread (remaining lens.now) self.old.stages) }
-        ensures cost { Costs (M.counted m.old) (M.counted m.new) 0 0
-            (unread (remaining lens.now) self.old.stages) }
+        ensures visits { OnOk result ((M.counted m.new).visits + ahead lens.now self.new
+            ≡ (M.counted m.old).visits + ahead lens.now self.old) }
+        ensures cost { Costs (M.counted m.old) (M.counted m.new) 0 0 (ahead lens.now self.old) }
     {
         self.begin(lens, s, signatures, m)?;
         while !self.frames.is_empty() {
@@ -62,15 +58,13 @@ impl DepthFirstSearch {
     ) -> Result<(), Memory>
         requires state { (s < lens.now.l.states) × (stage_at self.old.stages s ≡ Unvisited) }
         requires rests { IsAtRest lens.now signatures.old self.old }
-        requires room { HasRoomFor (M.counted m.old) 0
-            (unread (remaining lens.now) self.old.stages) }
+        requires room { HasRoomFor (M.counted m.old) 0 (ahead lens.now self.old) }
         ensures on { OnOk result
             (GoesOn lens.now signatures.old signatures.new self.old self.new) }
         ensures found { OnOk result (¬ (stage_at self.new.stages s ≡ Unvisited)) }
         ensures visits { OnOk result ((M.counted m.new).visits + ahead lens.now self.new
-            ≡ (M.counted m.old).visits + unread (remaining lens.now) self.old.stages) }
-        ensures cost { Costs (M.counted m.old) (M.counted m.new) 0 0
-            (unread (remaining lens.now) self.old.stages) }
+            ≡ (M.counted m.old).visits + ahead lens.now self.old) }
+        ensures cost { Costs (M.counted m.old) (M.counted m.new) 0 0 (ahead lens.now self.old) }
     {
         lens.invariants();
         let (start, end) = lens.row(s);

@@ -1,7 +1,8 @@
 use Rattle.std.proofs.Common.{rules, ◌≡◌, ◌∙◌, ℕ, ◌-◌, ◌<◌, ◌≤◌, List, length, slice_index, sym, inl, inr, arith, refl}
+use Rattle.std.proofs.Common.{ap}
 use Rattle.std.proofs.lemmas.List.Sums.{length-filter, count_by-le-length}
 use Rattle.std.proofs.lemmas.{Bool.cases_lt, Bool.false≢true, Grind.common_steps}
-use Rattle.inert.specs.Search.{VisitState, stage_at, Completed, IsFinished}
+use Rattle.inert.specs.Search.{VisitState, stage_at, Completed, IsFinished, rest}
 use Rattle.inert.proofs.{Invariant.stays_on, Invariant.goes_on, Resting.finished}
 use Rattle.inert.proofs.signer.search_all.Goals as goal
 
@@ -20,7 +21,8 @@ all_on old new active i still here were j from h = elim (cases_lt j i) [
 
 pub loop-i-init : goal.loop-i-init
 loop-i-init g c = let on = stays_on {old = c.args.search.now} c.requires.rests.walks refl in
-    search (rules, length-filter, count_by-le-length, c.requires.rests, on)
+    let none = ap (λ w. rest c.args.lens.now.visited w.frames) c.requires.rests.empty in
+    search (rules, length-filter, count_by-le-length, c.requires.rests, on, none)
 
 pub loop-i-preserved-then-not-is_unvisited : goal.loop-i-preserved-then-not-is_unvisited
 loop-i-preserved-then-not-is_unvisited g c = let inv = c.loop-i.invariant in

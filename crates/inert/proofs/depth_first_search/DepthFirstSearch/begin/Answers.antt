@@ -2,7 +2,7 @@ use Rattle.std.proofs.Common.{rules, ◌∙◌, set, ap, sym, arith}
 use Rattle.std.proofs.lemmas.{Bool.false≢true, Grind.common_steps}
 use Rattle.lts.proofs.CallerLemmas.{price_none, price_first, price_one_more}
 use Rattle.lts.specs.Meter.{Costs}
-use Rattle.inert.specs.{Steps.remaining, Search.Search, Search.Completed, Search.unread}
+use Rattle.inert.specs.{Search.Search, Search.Completed, SearchMoves.ahead}
 use Rattle.inert.proofs.Beginning.{begins, takes_framed, takes_bare, begun_ends}
 use Rattle.inert.proofs.Resting.{within}
 use Rattle.inert.proofs.depth_first_search.DepthFirstSearch.begin.Goals.{After-step-step}
@@ -19,18 +19,19 @@ step-step-requires-clause-room g c = let i = c.loop-k.invariant in
     omega (arith, c.requires.room, i.cost, i.begun.less, price_first c.args.lens.now.visited _ _ c.loop-k-test.true)
 
 -- A visit is a read of a transition that the meter counts. Suppose that the search has just read a transition of its
--- first state. Then the number of visits that the search has made since it began is at most the number of transitions
--- that needed a visit and had an unvisited source when the search began.
+-- first state. Then the number of visits that the search has made since it began is at most the number of visits that
+-- it had to make when it began.
 spent : (g : Over) (c : After-step-step g) → Costs (g.M.Meter.counted c.args.m.now)
-    (g.M.Meter.counted c.step-step.new.m) 0 0 (unread (remaining c.args.lens.now) c.args.self.now.stages)
+    (g.M.Meter.counted c.step-step.new.m) 0 0 (ahead c.args.lens.now c.args.self.now)
 spent g c = let i = c.loop-k.invariant in
     let first = price_first c.args.lens.now.visited _ _ c.loop-k-test.true in
     omega (arith, i.cost, c.step-step.ensures.visit, i.begun.less, first)
 
 pub loop-k-preserved : goal.loop-k-preserved
 loop-k-preserved g c = let i = c.loop-k.invariant in
-    let b = takes_bare c.invariants.ensures.laws c.invariants.ensures.lts i.same i.begun c.loop-k-test.true
-    c.requires.state.1 c.in_ok-handle_step-2.field-0 c.step-step.result (search rules)
+    let b = takes_bare c.invariants.ensures.laws c.invariants.ensures.lts
+    (within c.requires.rests c.requires.state.0) i.same i.begun c.loop-k-test.true c.requires.state.1
+    c.in_ok-handle_step-2.field-0 c.step-step.result (search rules)
     (λ on. false≢true (sym c.if-leads_on.false ∙ c.leads_on.ensures.1 on)) c.in_ok-handle_step-2.ensures in
     let one = price_one_more c.args.lens.now.visited _ _ i.begun.forward in
     grind (arith, common_steps, b, i.cost, c.step-step.ensures.visit, one)
@@ -40,8 +41,9 @@ loop-k-preserved g c = let i = c.loop-k.invariant in
 -- search has processed the transition at the place k (the index k in the list of all transitions).
 pub returns-then-leads_on : goal.returns-then-leads_on
 returns-then-leads_on g c = let i = c.loop-k.invariant in
-    let went = takes_framed c.invariants.ensures.laws c.invariants.ensures.lts i.same i.begun c.loop-k-test.true
-    c.step-step.result c.in_ok-handle_step.field-0 (search rules)
+    let went = takes_framed c.invariants.ensures.laws c.invariants.ensures.lts
+    (within c.requires.rests c.requires.state.0) i.same i.begun c.loop-k-test.true c.step-step.result
+    c.in_ok-handle_step.field-0 (search rules)
     (rw (c.in_ok-push_state.ensures, i.same) at c.in_ok-handle_step.ensures) in
     let one = price_one_more c.args.lens.now.visited _ _ i.begun.forward in
     grind (arith, common_steps, went, i.cost, c.step-step.ensures.visit, one)
@@ -61,8 +63,8 @@ returns-in_err-handle_step-2-clause-cost g c = spent g
 -- as all of its outgoing transitions were read.
 pub returns : goal.returns
 returns g c = let i = c.loop-k.invariant in
-    let ended = begun_ends c.invariants.ensures.laws c.invariants.ensures.lts i.same i.begun c.loop-k-test.false
-    c.in_ok-id.ensures.union (within c.requires.rests c.requires.state.0)
+    let ended = begun_ends c.invariants.ensures.laws c.invariants.ensures.lts
+    (within c.requires.rests c.requires.state.0) i.same i.begun c.loop-k-test.false c.in_ok-id.ensures.union
     (ap (λ (w : Search). record w { stages = set w.stages c.args.s (Completed c.in_ok-id.id) })
     (c.self.view_is ∙ c.in_ok-id.ensures.others)) in
     grind (arith, common_steps, ended, i.cost)

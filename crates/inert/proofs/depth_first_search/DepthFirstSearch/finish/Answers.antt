@@ -1,6 +1,5 @@
-use Rattle.std.proofs.Common.{rules, ◌∙◌, sym, ap, arith}
+use Rattle.std.proofs.Common.{rules, ◌∙◌, sym, arith}
 use Rattle.std.proofs.lemmas.{Bool.false≢true, Grind.common_steps}
-use Rattle.inert.specs.Search.{rest}
 use Rattle.inert.proofs.{Invariant.goes_on, Resting.walk_rests, Resting.finished}
 use Rattle.inert.proofs.depth_first_search.DepthFirstSearch.finish.Goals as goal
 
@@ -24,4 +23,4 @@ pub returns : goal.returns
 returns g c = let inv = c.loop-self.invariant in
     let empty = walk_rests inv.on.walks (search rules) in
     let done = finished (record { empty = empty; walks = inv.on.walks }) c.args.s inv.found in
-    grind (arith, empty, done, inv, ap (λ w. rest c.args.lens.now.visited w.frames) empty)
+    grind (arith, empty, done, inv)

@@ -18,11 +18,11 @@ module _ (g : Over) (c : After-index g) where
 
   -- A visit is a read of a transition that the meter counts. Reading the next transition takes 0 or 1 visits. This
   -- number is at most the number of visits that the search still has to make.
-  most : {w : Search} {k : ℕ} → Reads c.args.lens.now c.args.signatures.now c.args.self.now w k
-      → Stays c.args.self.now w
+  most : {w : Search} {k : ℕ} → Reads c.args.lens.now c.args.signatures.now c.args.self.now w
+      (length c.args.self.now.frames - 1) (top c.args.self.now.frames) k → Stays c.args.self.now w
       → k < c.top_frame-frame.result.end → price c.args.lens.now.visited k ≤ ahead c.args.lens.now w
   most reads stays more =
-      next_ahead reads stays c.requires.some c.invariants.ensures.laws c.invariants.ensures.lts
+      next_ahead reads (omega (arith, stays.size, c.requires.some)) c.invariants.ensures.laws c.invariants.ensures.lts
       (rw c.top_frame-frame.ensures at more)
 
 pub bounds-blocks-index : goal.bounds-blocks-index
@@ -45,7 +45,8 @@ step-step-requires-clause-room g c = let i = c.loop-k.invariant in
 -- and then processes it. After both steps, the condition `Marked` holds: `read` has read the transitions at the places
 -- up to and including k.
 taken : (g : Over) (c : In_ok-handle_step g) → Marked c.args.lens.now c.args.signatures.now c.args.self.now
-    c.handle_step.new.self c.loop-k.k c.in_ok-handle_step.field-0
+    c.loop-k.self c.handle_step.new.self (length c.args.self.now.frames - 1) (top c.args.self.now.frames) c.loop-k.k
+    c.in_ok-handle_step.field-0
 taken g c = let i = c.loop-k.invariant in let d = (goal.at.In_ok-handle_step g c).After-index in
     let frames = c.self-in-loop-k.inside.frames.items in let n = c.len-last.result - 1 in
     let last : n ≡ length c.args.self.now.frames - 1 =
@@ -54,8 +55,9 @@ taken g c = let i = c.loop-k.invariant in let d = (goal.at.In_ok-handle_step g c
     let low : n < length frames = omega (arith, last, i.stays.size, c.requires.some, size) in
     let is : c.index_mut.result.now ≡ frame_at c.loop-k.self.frames n =
     get_or_read frames _ _ low c.index_mut.ensures.value _ ∙ ap (λ w. frame_at w.frames n) c.self-in-loop-k.view_is in
-    marked i.reads i.stays c.requires.some c.invariants.ensures.laws c.invariants.ensures.lts
-    (rw c.top_frame-frame.ensures at c.loop-k-test.true) _ (search (rules, c.blocks-blocks.ensures, state g d))
+    marked i.reads (omega (arith, i.stays.size, c.requires.some)) c.invariants.ensures.laws c.invariants.ensures.lts
+    (rw c.top_frame-frame.ensures at c.loop-k-test.true) _ i.stays.stack
+    (search (rules, c.blocks-blocks.ensures, state g d))
     c.step-step.result c.step-step.ensures.step last (λ j. record (is j) { next = c.loop-k.k + 1 })
     (subst (λ (w : Search). HandlesStep c.args.lens.now.l.places c.step-step.result (record w {
       frames = set w.frames n (record c.index_mut.result.now { next = c.loop-k.k + 1 });
@@ -71,10 +73,12 @@ pub loop-k-preserved : goal.loop-k-preserved
 loop-k-preserved g c = let m = taken g (goal.at.loop-k-preserved g c).In_ok-handle_step in
     let stays = m.stays (λ e. false≢true (sym c.if-branch.false ∙ e)) in
     let one = price_one_more c.args.lens.now.visited _ _ c.loop-k.invariant.reads.forward in
-    grind (arith, common_steps, m.reads, stays, c.loop-k.invariant.cost, c.step-step.ensures.visit, one)
+    let i = c.loop-k.invariant in
+    grind (arith, common_steps, m.reads, stays, i.stays, i.cost, c.step-step.ensures.visit, one)
 
 pub returns-then-branch : goal.returns-then-branch
 returns-then-branch g c = let i = c.loop-k.invariant in
     let m = taken g (goal.at.returns-then-branch g c).In_ok-handle_step in
     let one = price_one_more c.args.lens.now.visited _ _ i.reads.forward in
-    grind (arith, common_steps, m.reads, m.nearer c.if-branch.true, i.reads, i.cost, c.step-step.ensures.visit, one)
+    let nearer = m.nearer c.if-branch.true in
+    grind (arith, common_steps, m.reads, nearer, i.stays, i.reads, i.cost, c.step-step.ensures.visit, one)
