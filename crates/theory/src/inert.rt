@@ -1,12 +1,9 @@
-//! Theorems about inert steps: paths of inert steps, signatures along these paths, and states without inert steps.
+//! Theorems about inert steps: paths of inert steps, and signatures along these paths.
 
 ghost use Rattle.std.specs.Prelude.{◌≡◌, ◌⊎◌, ℕ, ◌<◌, Bool, IsTrue, List};
 ghost use Rattle.theory.specs.System.{System, IsSystem, Step, Leads, internal};
-ghost use Rattle.theory.specs.Bisimulation.{Bisimilar};
-ghost use Rattle.theory.specs.declared.relation.Relation.{Relation};
 ghost use Rattle.theory.specs.declared.relation.Relation.TheVariants.{Branching};
 ghost use Rattle.theory.specs.Blocks.{Inert, Signature, SameSignature};
-ghost use Rattle.theory.specs.Quotient.{ShowsNothing};
 
 /// The empty path is a path of inert steps. Paths of inert steps can be extended at both ends, and can be joined.
 pub fn inert_steps_lead_on()
@@ -55,15 +52,4 @@ pub fn inert_steps_pass_signatures_back()
     ensures same { (A : System) (blocks : ℕ → ℕ) (s t : ℕ) → Leads (Inert A blocks) s t →
         Leads (Inert A blocks) t s →
         SameSignature Branching A blocks s t }
-{}
-
-/// For branching bisimilarity, an inert step is an internal step between bisimilar states. For strong bisimilarity, no
-/// step is inert. Let s and t be bisimilar states, and let s have no inert steps. Suppose that a step of t with the
-/// label a leads to the state u, and that this step is not inert. Then some step of s with the label a leads to a state
-/// that is bisimilar to u.
-pub fn states_without_inert_steps_show_all()
-    ensures { (rel : Relation) (A : System) (s t : ℕ) (a : List ℕ) (u : ℕ) → IsSystem A →
-        Bisimilar rel A s A t →
-        ((b : List ℕ) (v : ℕ) → Step A s b v → ¬ ShowsNothing rel A s b v) →
-        Step A t a u → ¬ ShowsNothing rel A t a u → (v : ℕ) × Step A s a v × Bisimilar rel A u A v }
 {}

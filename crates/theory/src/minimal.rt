@@ -2,25 +2,12 @@
 //! quotient is equivalent to the system, contains no two bisimilar states, and has the fewest states of all equivalent
 //! systems.
 
-ghost use Rattle.std.specs.Prelude.{◌≡◌, ◌↔◌, ℕ, ◌<◌, ◌≤◌, Bool, IsTrue, List};
+ghost use Rattle.std.specs.Prelude.{◌≡◌, ◌↔◌, ℕ, ◌<◌, ◌≤◌, List};
 ghost use Rattle.std.specs.List.{Contains};
-ghost use Rattle.theory.specs.System.{System, Transition, IsSystem, Step, Reachable};
+ghost use Rattle.theory.specs.System.{System, Transition, IsSystem, Reachable};
 ghost use Rattle.theory.specs.Bisimulation.{Bisimilar, Equivalent};
 ghost use Rattle.theory.specs.declared.relation.Relation.{Relation};
 ghost use Rattle.theory.specs.Quotient.{Leader, IsLeader, Number, Quotient};
-
-/// The first state is reachable. If a step leads from a reachable state to another state, that state is reachable too.
-/// Every reachable state is a state of the system. If the first state has a property, and every step preserves this
-/// property, then every reachable state has this property.
-pub fn steps_keep_reachable()
-    ensures first { (A : System) → Reachable A A.first }
-    ensures step { (A : System) (s : ℕ) (a : List ℕ) (t : ℕ) → Reachable A s →
-        Step A s a t → Reachable A t }
-    ensures below { (A : System) (s : ℕ) → IsSystem A → Reachable A s → s < A.states }
-    ensures kept { (A : System) (has : ℕ → Bool) → IsTrue (has A.first) →
-        ((s : ℕ) (a : List ℕ) (t : ℕ) → IsTrue (has s) → Step A s a t → IsTrue (has t)) →
-        (s : ℕ) → Reachable A s → IsTrue (has s) }
-{}
 
 /// The leader of a class is the state that represents this class. If two leaders are bisimilar, they are equal.
 pub fn leaders_differ()
