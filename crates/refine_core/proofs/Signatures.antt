@@ -184,8 +184,8 @@ pairs_to blocks places s start k = map (pair_under blocks) (take (k - start) (ro
 
 -- The list es contains transitions, and `before s es` is the number of those whose source is less than s. Suppose that
 -- `next` is at most s. Then `before next es` plus the number of the transitions from s is at most the length of es.
-pub row_within : (next s : ℕ) (es : List Triple) → next ≤ s → before next es + length (row_of s es) ≤ length es
-row_within next s es h = omega (arith, before-mono next s es h, before-next s es, before-le (s + 1) es)
+pub row_within : {next s : ℕ} (es : List Triple) → next ≤ s → before next es + length (row_of s es) ≤ length es
+row_within {next} {s} es h = omega (arith, before-mono next s es h, before-next s es, before-le (s + 1) es)
 
 -- `IsSplitSignature` holds if `list` is the split signature of the state s. If the signature of s is the same as in the
 -- last round, `list` must be empty. Otherwise, `list` must be the new signature of s, and must not be empty.
@@ -233,7 +233,8 @@ module _ (rel : Relation) (l : Grouped) (lts : IsLts l) (r : Signed) (ready : Is
       → IsSingleton blocks s ⊎ IsSplitSignature rel l ready.old blocks s (list_of signatures signature_ids s)
   each s h = grind (arith, ready.others s h, have.none s, given s h, have.states, ready.is.states, are.first)
 
-  separates : (s t : ℕ) → s < l.states → t < l.states → slice_index blocks s ≡ slice_index blocks t → AreEqualTogether s t
+  separates : (s t : ℕ) → s < l.states → t < l.states → slice_index blocks s ≡ slice_index blocks t
+      → AreEqualTogether s t
   separates s t ls lt one =
       let was = was_alike rel l ready.old blocks _ ready.is.follows s t ls lt one in
       let size = ready.is.states in
@@ -332,42 +333,33 @@ module _ (l : Grouped) (r : Signed) (ready : IsReadyToSign Branching l r) where
     same_list : (s : ℕ) → s < l.states → list_at signatures (slice_index r.cached s) ≡ list_of r.signatures r.cached s
     same_list s h = signs.grow.same (slice_index r.cached s) (within s h)
 
-    -- In the following lemmas, s is an active state, which is a state that the round processes. The lemmas assume that,
-    -- before the signatures were computed, the cached ID of s was the ID of the signature that s had in the last round.
-    module _ (lts : IsLts l) (s : ℕ) (h : s < l.states) (one : IsMember active s)
-        (was : IsListOf l (Was Branching l ready.old s) (list_of r.signatures r.cached s)) where
-      -- Let s be an active state, which is a state that the round processes. Suppose that the round has computed the
-      -- signature of s, and has stored the ID of this signature in the cache. Then the cached ID of s is the same as
-      -- before if and only if the signature of s has not changed since the last round.
-      unchanged : (slice_index r.cached s ≡ slice_index cached s) ↔ IsAsBefore Branching l ready.old of s
-      unchanged =
-          let equal = equal_represented l _ _ (list_of signatures cached s) (list_of r.signatures r.cached s)
-          (label_id_of l lts Branching (Some of) s) (label_id_of l lts Branching ready.old s) (signs.signed s one)
-          was in
-          let apart = are.different (slice_index r.cached s) (slice_index cached s) in
-          grind (arith, equal, same_list s h, apart, within s h, signs.grow.longer, signs.each s 0, signs.states)
-
-      -- Suppose that the signature of the active state s (a state that the round processes) is empty in this round.
-      -- Then the signature of s was empty in the last round, too.
-      empty_still : list_of signatures cached s ≡ [] → IsAsBefore Branching l ready.old of s
-      empty_still nil a b =
-          let shows = carried_over l _ (λ a b. ⊥) [] (label_id_of l lts Branching (Some of) s)
-          (rw nil at (signs.signed s one)) (none_listed l _ (λ a b h. h)) in
-          (λ can. absurd (shows a b can), λ was. absurd (empty_was l lts ready.old of _ ready.is.follows s h shows a b was))
-
-      -- The split signature of a state is empty if the signature of the state has not changed since the last round, and
-      -- otherwise it is the new signature. For the active state s, which is a state that the round processes, the list
-      -- `signature_ids` contains the ID of the split signature of s (`IsSplitSignature`).
-      split_id : IsSplitSignature Branching l ready.old of s (list_of signatures signature_ids s)
-      split_id = elim (signs.changed s one) [
-        | inl (is, zero) ↦ inl (ap (list_at signatures) zero ∙ are.first, unchanged.0 is)
-        | inr (other, now) ↦
-            rw now (inr (
-              λ nil. other (unchanged.1 (empty_still nil)),
-              λ is. other (unchanged.1 is),
-              signs.signed s one,
-            ))
-      ]
+    -- Let s be an active state, which is a state that the round processes. Suppose that, before the signatures were
+    -- computed, the cached ID of s was the ID of the signature that s had in the last round. Then the cached ID of s has
+    -- changed if and only if the signature of s has changed. A signature that is empty in this round was empty in the
+    -- last round, too. So `signature_ids` contains the ID of the split signature of s (`IsSplitSignature`).
+    split_id : IsLts l → (s : ℕ) → s < l.states → IsMember active s
+        → IsListOf l (Was Branching l ready.old s) (list_of r.signatures r.cached s)
+        → IsSplitSignature Branching l ready.old of s (list_of signatures signature_ids s)
+    split_id lts s h one was =
+        let now = signs.signed s one in
+        let labels = label_id_of l lts Branching (Some of) s in
+        let equal = equal_represented l _ _ (list_of signatures cached s) (list_of r.signatures r.cached s) labels
+        (label_id_of l lts Branching ready.old s) now was in
+        let apart = are.different (slice_index r.cached s) (slice_index cached s) in
+        let unchanged : (slice_index r.cached s ≡ slice_index cached s) ↔ IsAsBefore Branching l ready.old of s =
+        grind (arith, equal, same_list s h, apart, within s h, signs.grow.longer, signs.each s 0, signs.states) in
+        elim (signs.changed s one) [
+          | inl (is, zero) ↦ inl (ap (list_at signatures) zero ∙ are.first, unchanged.0 is)
+          | inr (other, id) ↦
+              rw id (inr (
+                λ nil.
+                    let empty = carried_over l _ (λ a b. ⊥) [] labels (rw nil at now) (none_listed l _ (λ a b h. h)) in
+                    let were = empty_was l lts ready.old of _ ready.is.follows s h empty in
+                    other (unchanged.1 (λ a b. (λ can. absurd (empty a b can), λ can. absurd (were a b can)))),
+                λ is. other (unchanged.1 is),
+                now,
+              ))
+        ]
 
     -- Let s be a state that is not in a singleton block (a block with one state). After the round has computed the
     -- signatures, the cache contains the ID of the present signature of s.

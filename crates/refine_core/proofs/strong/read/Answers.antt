@@ -1,27 +1,25 @@
-use Rattle.std.proofs.Common.{◌≡◌, ℕ, ◌+◌, ◌-◌, ◌<◌, arith, rules}
+use Rattle.std.proofs.Common.{ℕ, ◌+◌, ◌-◌, ◌<◌, arith, rules}
 use Rattle.std.proofs.lemmas.Grind.{common_steps}
 use Rattle.std.proofs.lemmas.List.{take_all}
 use Rattle.lts.specs.Lts.{row_of}
-use Rattle.refine_core.proofs.Signatures.{pairs_to}
 use Rattle.refine_core.proofs.strong.read.Goals as goal
 
 pub loop-k-preserved : goal.loop-k-preserved
 loop-k-preserved g c =
-    let of = c.args.under.now.block_ids.now in
-    let places = c.args.under.now.l.now.places in
     let i = c.loop-k.invariant in
     let k = c.loop-k.k in
-    let row = λ (k : ℕ). c.rows_follow.ensures.inside places c.args.s _ _ k c.row-start.ensures in
+    let row = λ (k : ℕ). c.rows_follow.ensures.inside c.args.under.now.l.now.places c.args.s _ _ k
+    c.row-start.ensures in
     let one = row k i.begun (omega (arith, c.loop-k-test.true)) in
     let two = row (k + 1) (omega (arith, i.begun)) (omega (arith, c.loop-k-test.true)) in
-    let first : c.collect-affected.new.pairs.items ≡ pairs_to of places c.args.s c.row-start.result.0 (k + 1)
-    = grind (arith, common_steps, one, i.pairs, c.edge-first.ensures, c.collect-affected.ensures.pairs) in
+    let first = c.collect-affected.ensures.pairs in
     let added = c.collect-affected-in-loop-k.ensures in
     record {
       begun = omega (arith, i.begun);
       within = omega (arith, c.loop-k-test.true);
       room = omega (arith, i.room);
-      pairs = grind (arith, common_steps, two, first, c.edge-second.ensures, added.pairs);
+      pairs = grind
+          (arith, common_steps, one, two, i.pairs, c.edge-first.ensures, first, c.edge-second.ensures, added.pairs);
       affected = added.affected;
       visits = search rules;
     }

@@ -31,10 +31,9 @@ inactive_none_more signature_ids active i k more none t h = grind (arith, common
 
 pub intern_signature-requires-clause-room : goal.intern_signature-requires-clause-room
 intern_signature-requires-clause-room g c =
-    let visits = c.loop-s.invariant.visits in
-    let row = row_within _ _ (remaining_of c.args.visited.now c.args.under.now.l.now.places)
-    (visits.1 _ (omega arith) c.loop-s-test.true) in
-    omega (arith, visits.2, row, c.requires.room)
+    let (next, below, visits) = c.loop-s.invariant.visits in
+    let row = row_within (remaining_of c.args.visited.now c.args.under.now.l.now.places) (below _ (omega arith)
+    c.loop-s-test.true) in omega (arith, visits, row, c.requires.room)
 
 pub loop-s-preserved : goal.loop-s-preserved
 loop-s-preserved g c =
@@ -57,10 +56,9 @@ loop-s-preserved g c =
 
 pub returns-in_err-signature_ids-clause-cost : goal.returns-in_err-signature_ids-clause-cost
 returns-in_err-signature_ids-clause-cost g c =
-    let visits = c.loop-s.invariant.visits in
-    let row = row_within _ _ (remaining_of c.args.visited.now c.args.under.now.l.now.places)
-    (visits.1 _ (omega arith) c.loop-s-test.true) in
-    omega (arith, visits.2, row, c.intern_signature.ensures.visits)
+    let (next, below, visits) = c.loop-s.invariant.visits in
+    let row = row_within (remaining_of c.args.visited.now c.args.under.now.l.now.places) (below _ (omega arith)
+    c.loop-s-test.true) in omega (arith, visits, row, c.intern_signature.ensures.visits)
 
 pub returns-clause-cost : goal.returns-clause-cost
 returns-clause-cost g c = search (rules, before-le, c.loop-s.invariant.visits)
