@@ -50,6 +50,19 @@ pub record Taken (rel : Relation) (A : System) (block : ℕ → ℕ) (count s : 
   pub number : (t : ℕ) → Reachable A t → number_at block n t ≢ NONE → Number rel A t (number_at block n t)
   pub counted : (sys : IsSystem A) → length n.classes.items ≡ suc (place rel A sys s)
 
+-- The class number of a reachable state is the number of the quotient state that represents this state. If the loop has
+-- processed a reachable state, its entry in the list of class numbers is its class number (`Taken-number`). The list of
+-- classes contains the block ID of this state at this number, and at no other index (`Taken-class`).
+module _ {rel : Relation} {A : System} {block : ℕ → ℕ} {count s : ℕ} {n : Numbers} (h : Taken rel A block count s n)
+    (t : ℕ) (low : t < s) (way : Reachable A t) where
+  pub Taken-number : Number rel A t (slice_index n.numbers.items t)
+  Taken-number = let seen = h.seen t low way in rw seen.0 (h.number t way seen.1)
+
+  pub Taken-class : (i : ℕ) → block t < count → (slice_index n.numbers.items t ≡ i)
+      ↔ ((i < length n.classes.items) × (slice_index n.classes.items i ≡ block t))
+  Taken-class i inside = let seen = h.seen t low way in
+      rw seen.0 (grind (arith, h.low (block t) inside seen.1, h.tied (block t) i inside))
+
 -- These lemmas assume that two states share a block if and only if they are bisimilar.
 module _ (rel : Relation) (A : System) (block : ℕ → ℕ) (sys : IsSystem A)
     (same : EachTwo A (λ s t. (block s ≡ block t) ↔ Bisimilar rel A s A t)) (count : ℕ)

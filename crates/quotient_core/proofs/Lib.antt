@@ -1,6 +1,5 @@
--- Lemmas about the number of visits, which are reads of transitions that the meter counts.
-pub mod Visits
--- Lemmas about the search for the reachable states.
+-- Lemmas about the number of visits, which are reads of transitions that the meter counts, and about the search for the
+-- reachable states.
 pub mod Reaching
 -- Lemmas about the class numbers of states. The class number of a reachable state is the number of the quotient state
 -- that represents this state.

@@ -1,25 +1,56 @@
--- Lemmas about the search for the reachable states. The lemmas describe how two sets change when the search marks a
--- state or reads the transitions of a state: the set of the marked states, and the set of the transitions that the
--- search may still read.
+-- A visit is a read of a transition that the meter counts. The first lemmas of this file are about the number of visits
+-- that two successive calls make, and about the number of transitions of the states in a set. None of the calls begins
+-- a round. The other lemmas are about the search for the reachable states. They describe how two sets change when the
+-- search marks a state or reads the transitions of a state: the set of the marked states, and the set of the
+-- transitions that the search may still read.
+use Rattle.std.proofs.Common.{rules, ◌≡◌, ℕ, ◌+◌, ◌≤◌, Bool, cond, List, length, ◌≢◌, sum_by, ap, ◌⊎◌, ◌<◌, true, false}
+use Rattle.std.proofs.Common.{not, ◌&&◌, eqb, ltb, [], ◌∷◌, ◌++◌, get_or, set, replicate, Contains, refl, inl, inr}
+use Rattle.std.proofs.Common.{arith}
+use Rattle.std.proofs.lemmas.List.Sums.{length-filter, count_by-le-length, sum_by_push, sum_by-cons}
+use Rattle.lts.proofs.CallerLemmas.{length-filter-sum}
+use Rattle.lts.specs.Lts.{Triple, source_of, row_of, Grouped, system_of}
+use Rattle.lts.specs.Meter.{Counts, HasRoomFor, Costs}
+use Rattle.quotient_core.specs.Triples.{rows_of}
 use Rattle.std.proofs.lemmas.List.{get_or_default, get_or-set_same, get_or-set_other, length-replicate, get_or_past}
 use Rattle.std.proofs.lemmas.List.{length-set, append-nil}
-use Rattle.std.proofs.Common.{◌≢◌, sum_by, ap, ◌≡◌, ◌⊎◌, ℕ, ◌+◌, ◌<◌, Bool, true, false, cond, not, ◌&&◌, eqb, ltb}
-use Rattle.std.proofs.Common.{List, [], ◌∷◌, ◌++◌, length, get_or, set, replicate, Contains, refl, inl, inr, arith}
-use Rattle.std.proofs.Common.{rules}
 use Rattle.std.proofs.lemmas.Grind.{common_steps}
 use Rattle.std.proofs.lemmas.Bool.Decides.{nat_tests}
 use Rattle.std.proofs.lemmas.Bool.{cases_eq, cases_Bool, both_ways}
 use Rattle.std.proofs.lemmas.List.Elements.{Contains-append_cases, Contains-append_left, Contains-append_right}
-use Rattle.std.proofs.lemmas.List.Sums.{sum_by_push, sum_by-cons}
 use Rattle.theory.specs.System.{Step, Reachable}
 use Rattle.theory.proofs.CallerLemmas.{contains_here, contains_there, contains_cases, contains_none}
-use Rattle.lts.specs.Lts.{Triple, row_of, Grouped, system_of}
-use Rattle.lts.specs.Meter.{Counts, HasRoomFor, Costs}
 use Rattle.quotient_core.specs.Numbers.{IsMarked}
 use Rattle.quotient_core.specs.Search.{MarksState, Searches, ReadsOnce, is_ahead, places_ahead}
-use Rattle.quotient_core.specs.Triples.{rows_of}
 use Rattle.quotient_core.specs.declared.search.Search.{Search}
-use Rattle.quotient_core.proofs.Visits.{visits_then, room_after, rows_part, rows_few}
+
+-- Suppose that one call makes at most `first` visits (reads of transitions that the meter counts), and that the next
+-- call makes at most `second` visits. Then the two calls together make at most `first + second` visits.
+pub visits_then : {old mid new : Counts} {first second most : ℕ} → Costs old mid 0 0 first → Costs mid new 0 0 second →
+    first + second ≤ most → Costs old new 0 0 most
+visits_then before after fits = search rules
+
+pub visits_at_most : {old new : Counts} {few most : ℕ} → Costs old new 0 0 few → few ≤ most → Costs old new 0 0 most
+visits_at_most h low = search rules
+
+-- The meter counts visits, which are reads of transitions. Suppose that, at some time, the meter could count `all` more
+-- visits without overflow. Suppose also that the meter has counted at most `few` visits since then, and that `few +
+-- row` is at most `all`. Then the meter can still count `row` more visits without overflow.
+pub room_after : {old mid : Counts} {all few row : ℕ} → HasRoomFor old 0 all → Costs old mid 0 0 few → few + row ≤ all →
+    HasRoomFor mid 0 row
+room_after room cost fits = search rules
+
+-- `Parts` holds if each state that satisfies p satisfies exactly one of q and r, and each other state satisfies neither
+-- q nor r.
+abbrev pub Parts : (ℕ → Bool) → (ℕ → Bool) → (ℕ → Bool) → Type 0
+Parts p q r = (s : ℕ) → cond (p s) 1 0 ≡ cond (q s) 1 0 + cond (r s) 1 0
+
+pub rows_part : (p q r : ℕ → Bool) → Parts p q r → (places : List Triple) →
+    length (rows_of p places) ≡ length (rows_of q places) + length (rows_of r places)
+rows_part p q r parts places = length-filter-sum (λ e. p (source_of e)) (λ e. q (source_of e)) (λ e. r (source_of e))
+    (λ e. parts (source_of e)) places
+
+pub rows_few : (p : ℕ → Bool) (places : List Triple) → length (rows_of p places) ≤ length places
+rows_few p places = search (rules, length-filter, count_by-le-length)
 
 -- `Follows` holds if the following is true for each marked state u that the scan of the search has passed and that is
 -- not in the queue `waiting`. If the relation R leads from u to a state v with some label, then v is marked. The search

@@ -7,13 +7,13 @@
 use Rattle.std.proofs.Common.{◌-◌, get_or, ◌≡◌, ◌≢◌, ◌⊎◌, ◌↔◌, ℕ, ◌+◌, ◌<◌, ◌≤◌, Bool, false, not, ◌&&◌, IsTrue, eqb}
 use Rattle.std.proofs.Common.{List, [], ◌++◌, length, slice_index, Contains, IsPermutation, ap, subst, inl, inr, arith}
 use Rattle.std.proofs.Common.{ltb, map, rules, nat_eq, cond}
-use Rattle.std.specs.List.{AllPairs, dedup}
+use Rattle.std.specs.List.{AllPairs}
 use Rattle.std.proofs.lemmas.Cmp.{on_total, then_total, nat_cmp_total}
 use Rattle.std.proofs.lemmas.List.Filters.{dedup_is}
 use Rattle.std.proofs.lemmas.List.Kept.{IsStrictlySortedBy-dedup, Contains-dedup, Contains-from_dedup}
 use Rattle.std.proofs.lemmas.List.Sorted.{Contains-permutation, IsPermutation-sym}
-use Rattle.std.proofs.lemmas.Map.Keys.{Less-from_sorted}
-use Rattle.std.specs.declared.cmp.Ordering.TheVariants.{Less, Greater}
+use Rattle.std.proofs.lemmas.Map.Keys.{IsDistinct-from_sorted}
+use Rattle.std.proofs.lemmas.Map.Made.{AllPairs-from_IsDistinct}
 use Rattle.std.specs.Cmp.{IsTotalOrder}
 use Rattle.std.specs.List.Sorted.{IsSorted}
 use Rattle.std.specs.declared.cmp.Ordering.{Ordering}
@@ -31,11 +31,10 @@ use Rattle.quotient_core.specs.declared.numbering.Numbering.{Numbering}
 use Rattle.quotient_core.specs.Triples.{number_of, shown_by, is_reached, is_member, ShowEachOther, rows_of, HasShown}
 use Rattle.quotient_core.specs.Triples.{between_numbers, is_left_out}
 use Rattle.std.proofs.lemmas.Grind.{elements}
-use Rattle.quotient_core.proofs.Reaching.{marked_below}
+use Rattle.quotient_core.proofs.Reaching.{marked_below, visits_then, Parts, rows_part, rows_few}
 use Rattle.lts.proofs.CallerLemmas.{contains_mapped, mapped_contains, contains_passing, passing_contains}
 use Rattle.std.proofs.lemmas.Bool.{not-true, not_from_false}
 use Rattle.std.proofs.lemmas.List.Sums.{length-filter, count_by-le-length}
-use Rattle.quotient_core.proofs.Visits.{visits_then, Parts, rows_part, rows_few}
 
 -- `triple_cmp` compares two triples (source, label ID, target): first by source, then by label ID, then by target.
 abbrev triple_cmp : Triple → Triple → Ordering
@@ -52,12 +51,9 @@ triple_total = then_total (then_total (on_total (λ t. t.0) nat_cmp_total) (on_t
 -- before it. Then the elements of zs are pairwise different.
 pub tidied_once : (ys zs : List Triple) → IsFiltered (DiffersFromLast triple_eq) [] ys zs → IsSorted triple_cmp ys →
     AllPairs (λ x y. x ≢ y) zs
-tidied_once ys zs filtered sorted = rw (dedup_is triple_eq ys zs filtered) (λ i j d low high same.
-    let y = get_or (dedup triple_eq ys) j d in
-    let less = Less-from_sorted triple_cmp (dedup triple_eq ys) i j d
-    (IsStrictlySortedBy-dedup triple_total (λ x y. search rules) ys sorted) low high in
-    let self : triple_cmp y y ≡ Less = rw same at less in
-    let bad : Less ≡ Greater = rw self at (triple_total.antisymm y y) in cc)
+tidied_once ys zs filtered sorted = rw (dedup_is triple_eq ys zs filtered)
+    (AllPairs-from_IsDistinct (λ x y. search rules) _ (IsDistinct-from_sorted triple_cmp _
+    (IsStrictlySortedBy-dedup triple_total (λ x y. search rules) ys sorted)))
 
 -- A quotient transition is a transition between quotient states. The quotient transitions of the state s are exactly
 -- the triples that come from the transitions of s and that the quotient does not leave out.

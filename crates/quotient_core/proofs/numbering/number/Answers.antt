@@ -6,7 +6,7 @@ use Rattle.theory.proofs.CallerLemmas.{reachable_below, place_few, leaders_count
 use Rattle.lts.specs.Lts.{system_of}
 use Rattle.quotient_core.specs.declared.numbering.TheConstants.{NONE}
 use Rattle.quotient_core.proofs.Reaching.{marked_below}
-use Rattle.quotient_core.proofs.Classes.{Taken-start, Taken-adds}
+use Rattle.quotient_core.proofs.Classes.{Taken-start, Taken-adds, Taken-number, Taken-class}
 use Rattle.quotient_core.proofs.numbering.number.Given.{Over}
 use Rattle.quotient_core.proofs.numbering.number.Goals as goal
 use Rattle.quotient_core.proofs.numbering.number.Goals.{In_ok-vec-2}
@@ -54,25 +54,22 @@ loop-s-preserved g c =
     (omega (arith, low, c.states.ensures.lts.in_range.few_states)) c.loop-s.invariant takes
 
 pub returns : goal.returns
-returns g c =
-    let A = system_of c.args.l.now in
+returns g c = let A = system_of c.args.l.now in
     let sys = c.states.ensures.lts.system in
     let below = reachable_below A sys in
     let end : c.loop-s.s ≡ A.states = omega (arith, c.states-s-end.ensures.value) in
     let h = rw end at c.loop-s.invariant in
-    let seen = λ (s : ℕ) (way : Reachable A s). h.seen s (below s way) way in
+    let all = inside g (goal.at.returns g c).In_ok-vec-2 in
     record {
       numbered = record {
         blocks_long = c.requires.blocks_long;
         reached_long = c.requires.reached_long;
         numbers_long = h.numbers_long;
         classes_below = h.below;
-        class = λ s i m. let way = (c.requires.reached s).0 m in
-            let l = inside g (goal.at.returns g c).In_ok-vec-2 s (below s way) in
-            rw (seen s way).0 (grind (arith, h.low _ l (seen s way).1, h.tied _ i l));
+        class = λ s i m. let w = (c.requires.reached s).0 m in Taken-class h s (below s w) w i (all s (below s w));
       };
       reached = c.requires.reached;
-      number = λ s way. rw (seen s way).0 (h.number s way (seen s way).1);
+      number = λ s way. Taken-number h s (below s way) way;
       counted = rw (h.counted sys) (leaders_counted c.args.r A sys);
       few = omega (arith, h.counted sys, leaders_few c.args.r A sys);
       drops = rw (← c.labels.ensures) c.dropped.ensures;

@@ -2,7 +2,7 @@ use Rattle.std.proofs.Common.{ℕ, false, get_or, rules, ◌≡◌, ◌≤◌, l
 use Rattle.std.proofs.lemmas.List.Sorted.{length_permutation}
 use Rattle.std.proofs.lemmas.Result.{IfOk-weaker}
 use Rattle.quotient_core.proofs.Quotients.{quotient_in_range, built, show_each_other}
-use Rattle.quotient_core.proofs.Visits.{rows_few}
+use Rattle.quotient_core.proofs.Reaching.{rows_few}
 use Rattle.quotient_core.proofs.quotient.quotient_of.Given.{Over}
 use Rattle.quotient_core.proofs.quotient.quotient_of.Goals as goal
 use Rattle.quotient_core.proofs.quotient.quotient_of.Goals.{In_ok-shown, After-len}

@@ -1,8 +1,7 @@
-use Rattle.std.proofs.Common.{◌∙◌, sym, arith}
-use Rattle.quotient_core.proofs.Showing.{read_few, read_all, read_over, fits, read_visits, read_next}
-use Rattle.quotient_core.proofs.Showing.{read_enough}
-use Rattle.quotient_core.proofs.Visits.{visits_at_most, room_after}
 use Rattle.quotient_core.proofs.triples.read_class.Goals as goal
+use Rattle.std.proofs.Common.{◌∙◌, sym, arith}
+use Rattle.quotient_core.proofs.Showing.{read_few, read_all, read_over, fits, read_visits, read_next, read_enough}
+use Rattle.quotient_core.proofs.Reaching.{visits_at_most, room_after}
 
 pub loop-k-preserved-then-not-is_reached : goal.loop-k-preserved-then-not-is_reached
 loop-k-preserved-then-not-is_reached g c = read_over c.loop-k.invariant c.last_first.ensures.below

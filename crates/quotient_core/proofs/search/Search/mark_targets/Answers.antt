@@ -1,3 +1,4 @@
+use Rattle.quotient_core.proofs.search.Search.mark_targets.Goals as goal
 use Rattle.lts.specs.Lts.{target_of, place_at, system_of}
 use Rattle.std.proofs.lemmas.List.{append-nil, length_push}
 use Rattle.std.proofs.Common.{ℕ, List, ◌≡◌, ◌∙◌, ◌<◌, length, sym, subst, arith, rules}
@@ -6,10 +7,8 @@ use Rattle.lts.proofs.CallerLemmas.{step_at, place_step}
 use Rattle.std.proofs.lemmas.Bool.{cases_eq}
 use Rattle.theory.specs.System.{Reachable, Step}
 use Rattle.quotient_core.specs.Numbers.{IsMarked}
-use Rattle.quotient_core.proofs.Reaching.{Follows, marked_below, mark_at, Searches-step}
-use Rattle.quotient_core.proofs.Reaching.{places_ahead-marks}
+use Rattle.quotient_core.proofs.Reaching.{Follows, marked_below, mark_at, Searches-step, places_ahead-marks}
 use Rattle.quotient_core.proofs.search.Search.mark_targets.Given.{Over}
-use Rattle.quotient_core.proofs.search.Search.mark_targets.Goals as goal
 use Rattle.quotient_core.proofs.search.Search.mark_targets.Goals.{In_ok-mark}
 
 pub row-start-requires : goal.row-start-requires
