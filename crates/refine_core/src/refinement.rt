@@ -49,8 +49,8 @@ pub fn refine_blocks<S: Signing, M: Meter>(
     theory::final_blocks_are_bisimilarity();
     renumberings_are_few();
     loop {
+        let count = round.count();
         let before = round.drop_singletons()?;
-        let count = before.count();
         let next = next_round::<S, M>(before, l, m)?;
         let more = next.count();
         if more == count {

@@ -3,7 +3,7 @@ use Rattle.std.proofs.Math.Logic.{⊎_map}
 use Rattle.std.proofs.lemmas.Nat.{mul-le}
 use Rattle.std.proofs.Math.Nat.{suc-mul}
 use Rattle.theory.specs.Blocks.{Turns}
-use Rattle.lts.specs.Meter.{Costs, CostsUpTo}
+use Rattle.lts.specs.Meter.{Costs}
 use Rattle.lts.specs.Lts.{system_of}
 use Rattle.refine_core.specs.Rounds.{AreAllActive, IsNextRound, AreRounds}
 use Rattle.partition.specs.Blocks.{RoundBlocks}
@@ -58,10 +58,8 @@ next_round-requires-clause-room g c =
 pub returns-in_err-next-clause-err : goal.returns-in_err-next-clause-err
 returns-in_err-next-clause-err g c =
     let made = c.loop-before.invariant.made in
-    let n = length c.args.l.now.places in
-    let most : CostsUpTo (g.M.Meter.counted c.args.m.now) (g.M.Meter.counted c.next_round.new.m) c.args.l.now.states n
-    = (suc made.rounds, made.fewer, omega (arith, suc-mul made.rounds n, made.costs, c.next_round.ensures.costs)) in
-    search rules
+    let visits = suc-mul made.rounds (length c.args.l.now.places) in
+    search (rules, made.fewer, visits, made.costs, c.next_round.ensures.costs)
 
 -- The following lemmas assume that a round was made. Before this round, some states in singleton blocks (blocks with
 -- one state) may have been dropped from the active states, which are the states that the round processes.
@@ -87,8 +85,7 @@ module _ (g : Over) (c : After-count-more g) where
   turns : c.count-more.result ≡ c.count-count.result →
       Turns g.S.Signing.relation (system_of c.args.l.now) (suc c.loop-before.invariant.made.rounds)
   turns e = c.refinement_goes_on.ensures.done _ _ _ _ _ c.states.ensures.lts.system
-      c.loop-before.invariant.made.underway next.split
-      (next.same.0 (omega (arith, e, ap (λ r. r.blocks.count) c.in_ok-before.ensures.same)))
+      c.loop-before.invariant.made.underway next.split (next.same.0 (omega (arith, e)))
 
 pub returns-then-more-count-clause-bisimilar : goal.returns-then-more-count-clause-bisimilar
 returns-then-more-count-clause-bisimilar g c =
@@ -123,10 +120,9 @@ loop-before-preserved g c =
     let d = (goal.at.loop-before-preserved g c).After-count-more in
     let made = c.loop-before.invariant.made in
     let next = next g d in
-    let counts = ap (λ r. r.blocks.count) c.in_ok-before.ensures.same in
     let system = c.states.ensures.lts.system in
     let on = c.refinement_goes_on.ensures.more _ _ _ _ _ system made.underway next.split
-    (λ same. c.if-more-count.false (omega (arith, next.same.1 same, counts))) in
+    (λ same. c.if-more-count.false (omega (arith, next.same.1 same))) in
     let fewer = c.refinement_goes_on.ensures.below _ _ _ _ system on in
     let costs = costs g d in
     record {

@@ -14,9 +14,4 @@ returns-then-not-needs_index-clause-visited g c =
     none_visited _ _ _ (ap (λ r. r.visited) c.needs_index.ensures ∙ c.requires.none)
 
 pub returns-clause-begins : goal.returns-clause-begins
-returns-clause-begins g c = record {
-  blocks = search rules;
-  cached = search rules;
-  built = inr (λ none. cc, search rules);
-  index = c.in_ok-predecessors.ensures.index _ (search rules);
-}
+returns-clause-begins g c = search (rules, c.in_ok-predecessors.ensures.index)
