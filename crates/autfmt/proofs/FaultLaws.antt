@@ -13,6 +13,7 @@ use Rattle.theory.specs.System.{System, Transition}
 use Rattle.autfmt.specs.declared.fault.Fault.{Fault}
 use Rattle.autfmt.specs.declared.fault.Fault.TheVariants.{BadHeader, LineTooLong, ExtraText, MissingEdges}
 use Rattle.autfmt.specs.Bounds.{Bounds}
+use Rattle.autfmt.specs.Grammar.{TransitionLine}
 use Rattle.autfmt.specs.Texts.{lines_of, Lines, IsShort, GoodHeader, SpellsTransition, SpellsAmong, Reads}
 use Rattle.autfmt.specs.Cutter.{IsPart}
 use Rattle.autfmt.specs.Faults.{LineFault, HeaderFault, EdgeFault, EndFault, EdgesFault, LinesFault, FirstFault}
@@ -23,8 +24,8 @@ use Rattle.autfmt.proofs.Lists.{AllZip-firsts, AllZip-unique}
 use Rattle.autfmt.proofs.FirstFaults.{AreJudged, unique, behind, no_fault, lines_judged, no_long, stays_before, stays}
 use Rattle.autfmt.proofs.FirstFaults.{not_known}
 use Rattle.autfmt.proofs.LineFaults.{HeaderFault-unique, GoodHeader-no_fault, GoodHeader-unique, header_judged}
-use Rattle.autfmt.proofs.LineFaults.{HeaderFault-long, EdgeFault-unique, GoodEdge-no_fault, edge_judged, EdgeFault-long}
-use Rattle.autfmt.proofs.LineFaults.{same_header}
+use Rattle.autfmt.proofs.LineFaults.{HeaderFault-long, EdgeFault-unique, GoodEdge-no_fault, edge_judged, same_header}
+use Rattle.autfmt.proofs.LineFaults.{LineFault-long}
 use Rattle.autfmt.specs.declared.line.TheConstants.{LONGEST_LINE}
 
 -- Each line after the header of an input is correct or has exactly one error. The header declares m transitions and n
@@ -35,7 +36,8 @@ edges m n = record {
   one = λ found. EdgeFault-unique n (found + 2);
   apart = λ found. GoodEdge-no_fault n (found + 2);
   judged = λ found. edge_judged n (found + 2);
-  long = λ found. EdgeFault-long n (found + 2);
+  long = λ found line k. LineFault-long (λ (l : List ℕ) (x : ℕ × List ℕ × ℕ). TransitionLine l x.0 x.1 x.2) k (λ e. cc)
+      (λ x e. grind arith);
   extra_long = λ found k e. cc;
   one_lack = λ found f g a b. a.1 ∙ sym b.1;
   lacks = λ found. ⊎_elim (λ less. inl (MissingEdges found, (less, refl)))
@@ -182,7 +184,7 @@ no_judged_fault bounds given line lines rest f m n es fault divides good spelled
 pub FirstFault-stays : (bounds : Bounds) (given more : List ℕ) (fault : Fault) → (fault ≡ BadHeader → ⊥) →
     ((found : ℕ) → fault ≡ MissingEdges found → ⊥) →
     ((line tail : List ℕ) → HeaderFault bounds line fault → HeaderFault bounds (line ++ tail) fault) →
-    ((n k : ℕ) (line tail : List ℕ) → EdgeFault n k line fault → EdgeFault n k (line ++ tail) fault) →
+    ((n i : ℕ) (line tail : List ℕ) → EdgeFault n (i + 2) line fault → EdgeFault n (i + 2) (line ++ tail) fault) →
     FirstFault bounds given fault → FirstFault bounds (given ++ more) fault
 FirstFault-stays bounds given more fault some whole header edge bad =
     record { first = step (lines_of given) (lines_of (given ++ more)) (line_grows given more) bad.first }
@@ -199,7 +201,7 @@ FirstFault-stays bounds given more fault some whole header edge bad =
           m,
           n,
           good,
-          stays (edges m n) m fault (λ i lack. whole i lack.1) (λ i. edge n (i + 2)) 0
+          stays (edges m n) m fault (λ i lack. whole i lack.1) (edge n) 0
               (next ∷ lines) others grows bad,
         ))
 

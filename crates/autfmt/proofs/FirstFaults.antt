@@ -47,16 +47,13 @@ module _ {X : Type 0} {Good : List ℕ → X → Type 0} {Bad : ℕ → List ℕ
   abbrev pub First : ℕ → List (List ℕ) → Fault → Type 0
   First = FaultFrom Next Lack
 
-  next_unique : (found : ℕ) (line : List ℕ) (f g : Fault) → Next found line f → Next found line g → f ≡ g
-  next_unique found line f g a b = let one = law.one found line in grind (arith, one)
-
   -- Lines have at most one first error.
   pub unique : (found : ℕ) (lines : List (List ℕ)) (f g : Fault) → First found lines f → First found lines g → f ≡ g
   unique found [] f g a b = law.one_lack found f g a b
   unique found (line ∷ others) f g a b =
-      let next = next_unique found line f g in
+      let one = law.one found line f g in
       let behind = unique (found + 1) others f g in
-      grind (arith, next, behind)
+      grind (arith, one, behind)
 
   next_good : (found : ℕ) (line : List ℕ) (x : X) → found < most → Good line x → (f : Fault) → Next found line f → ⊥
   next_good found line x less good f (inl bad) = law.apart found line x f good bad.1

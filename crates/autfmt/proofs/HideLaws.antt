@@ -3,10 +3,11 @@
 use Rattle.std.proofs.Common.{◌≡◌, ◌⊎◌, ⊎_elim, ℕ, None, ◌+◌, ◌<◌, ◌≤◌, List, [], ◌∷◌, ◌++◌, length, refl, sym, ◌∙◌}
 use Rattle.std.proofs.Common.{subst, inl, inr, arith}
 use Rattle.std.specs.List.{AllZip}
-use Rattle.std.proofs.lemmas.List.{append_assoc, length-append}
+use Rattle.std.proofs.lemmas.List.{append_assoc}
 use Rattle.std.proofs.lemmas.Slice.Zip.{AllZip-long}
 use Rattle.autfmt.specs.declared.fault.Fault.{Fault}
 use Rattle.autfmt.specs.declared.fault.Fault.TheVariants.{LineTooLong, BadHide, TooManyHidden}
+use Rattle.autfmt.specs.Grammar.{HideLine}
 use Rattle.autfmt.specs.Texts.{lines_of, IsShort}
 use Rattle.autfmt.specs.Cutter.{IsPart}
 use Rattle.autfmt.specs.HideLists.{Hides, HideReads, HideFault, HidesFault, FirstHideFault, JudgedHideFault}
@@ -15,18 +16,10 @@ use Rattle.autfmt.proofs.FirstFaults.{AreJudged, unique, behind, no_fault, lines
 use Rattle.autfmt.proofs.FirstFaults.{not_known}
 use Rattle.autfmt.proofs.Cutting.{Divides, ended_go_on, line_grows}
 use Rattle.autfmt.specs.Faults.LineFault.{too_long}
-use Rattle.autfmt.proofs.LineFaults.{LineFault-unique, LineFault-not_good, line_judged}
+use Rattle.autfmt.proofs.LineFaults.{LineFault-unique, LineFault-not_good, LineFault-long, line_judged}
 use Rattle.autfmt.proofs.Decisions.{one_hide_line, hide_line_reader}
 use Rattle.autfmt.specs.declared.line.TheConstants.{LONGEST_LINE}
 use Rattle.autfmt.specs.declared.limits.TheConstants.{MOST_LINES}
-
--- If a line of a hide list (a file with one label to hide on each line) has the error `LineTooLong`, then the line is
--- too long, and this error remains its error if further bytes are appended to the line.
-pub HideFault-long : (k : ℕ) (line : List ℕ) (j : ℕ) → HideFault k line (LineTooLong j) →
-    (LONGEST_LINE < length line) × ((tail : List ℕ) → HideFault k (line ++ tail) (LineTooLong j))
-HideFault-long k line j bad =
-    let (e, long) : (LineTooLong j ≡ LineTooLong k) × (LONGEST_LINE < length line) = grind arith in
-    (long, λ tail. too_long e (omega (arith, length-append line tail)))
 
 -- Every line of a hide list (a file with one label to hide on each line) is correct or has an error.
 hide_judged : (k : ℕ) (line : List ℕ) → ((a : List ℕ) × Hides line a) ⊎ ((fault : Fault) × HideFault k line fault)
@@ -41,7 +34,7 @@ hides = record {
   one = λ found line. LineFault-unique (hide_line_reader line);
   apart = λ found line a fault good. LineFault-not_good (hide_line_reader line) a fault good.0 good.1 refl;
   judged = λ found. hide_judged (found + 1);
-  long = λ found. HideFault-long (found + 1);
+  long = λ found line k. LineFault-long HideLine k (λ e. cc) (λ a e. cc);
   extra_long = λ found k e. cc;
   one_lack = λ found f g lack other. absurd lack;
   lacks = λ found. inr (λ f lack. lack);
@@ -86,10 +79,10 @@ hide_text_judged text = elim (lines_judged hides MOST_LINES 0 (lines_of text) (o
 -- remains the error of a line if further bytes are appended to the line. Then `fault` remains the first error if
 -- further bytes are appended to the hide list.
 pub FirstHideFault-stays : (given more : List ℕ) (fault : Fault) →
-    ((k : ℕ) (line tail : List ℕ) → HideFault k line fault → HideFault k (line ++ tail) fault) →
+    ((i : ℕ) (line tail : List ℕ) → HideFault (i + 1) line fault → HideFault (i + 1) (line ++ tail) fault) →
     FirstHideFault given fault → FirstHideFault (given ++ more) fault
 FirstHideFault-stays given more fault wider bad = record {
-  first = stays hides MOST_LINES fault (λ i lack. lack) (λ i. wider (i + 1)) 0 (lines_of given)
+  first = stays hides MOST_LINES fault (λ i lack. lack) wider 0 (lines_of given)
       (lines_of (given ++ more)) (line_grows given more) bad.first;
 }
 

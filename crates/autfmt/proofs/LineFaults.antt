@@ -1,5 +1,5 @@
 -- Every line of an input is correct or has exactly one error.
-use Rattle.std.proofs.Common.{◌≡◌, ◌⊎◌, ℕ, ◌<◌, ◌≤◌, List, ◌++◌, length, Option, None, Some, refl, inl, inr, arith}
+use Rattle.std.proofs.Common.{◌≡◌, ◌⊎◌, ℕ, ◌<◌, ◌≤◌, List, ◌++◌, length, Option, None, Some, refl, sym, inl, inr, arith}
 use Rattle.std.proofs.Common.{subst}
 use Rattle.std.proofs.lemmas.Bool.{cases_lt}
 use Rattle.std.proofs.lemmas.List.{length-append}
@@ -7,6 +7,7 @@ use Rattle.autfmt.specs.declared.fault.Fault.{Fault}
 use Rattle.autfmt.specs.declared.fault.Fault.TheVariants.{BadHeader, LineTooLong, BadEdge}
 use Rattle.theory.specs.System.{Transition}
 use Rattle.autfmt.specs.Bounds.{Bounds}
+use Rattle.autfmt.specs.Grammar.{Header}
 use Rattle.autfmt.specs.Texts.{IsShort, GoodHeader, SpellsAmong}
 use Rattle.autfmt.specs.Faults.{LineFault, HeaderFault, numbers_fault, EdgeFault, ends_fault}
 use Rattle.autfmt.specs.Faults.LineFault.{too_long, unread, wrong}
@@ -45,6 +46,18 @@ line_judged {X = X} {IsRead = IsRead} reader fault_in k bad line = elim (cases_l
         line fault)
     judged x short is None e = inl (x, short, is, e)
     judged x short is (Some fault) e = inr (fault, wrong x short is e)
+
+-- Suppose that the error of a line is `LineTooLong`, and that neither the error of a line without contents nor an error
+-- in the contents is `LineTooLong`. Then the line is too long, and this error remains its error if further bytes are
+-- appended to the line.
+pub LineFault-long : {X : Type 0} (IsRead : List ℕ → X → Type 0) {fault_in : X → Option Fault} {k : ℕ} {bad : Fault}
+    {line : List ℕ} (j : ℕ) → (bad ≡ LineTooLong j → ⊥) → ((x : X) → fault_in x ≡ Some (LineTooLong j) → ⊥) →
+    LineFault (IsRead line) fault_in k bad line (LineTooLong j) → (LONGEST_LINE < length line)
+    × ((tail : List ℕ) → LineFault (IsRead (line ++ tail)) fault_in k bad (line ++ tail) (LineTooLong j))
+LineFault-long IsRead {line = line} j not_bad not_in (too_long e long) =
+    (long, λ tail. too_long e (omega (arith, length-append line tail)))
+LineFault-long IsRead j not_bad not_in (unread e short none) = absurd (not_bad (sym e))
+LineFault-long IsRead j not_bad not_in (wrong x short is e) = absurd (not_in x e)
 
 -- ---- Line 1
 
@@ -93,9 +106,8 @@ header_judged bounds line =
 -- are appended to the line.
 pub HeaderFault-long : (bounds : Bounds) (line : List ℕ) (k : ℕ) → HeaderFault bounds line (LineTooLong k) →
     (LONGEST_LINE < length line) × ((tail : List ℕ) → HeaderFault bounds (line ++ tail) (LineTooLong k))
-HeaderFault-long bounds line k bad =
-    let (e, long) : (LineTooLong k ≡ LineTooLong 1) × (LONGEST_LINE < length line) = grind arith in
-    (long, λ tail. too_long e (omega (arith, length-append line tail)))
+HeaderFault-long bounds line k =
+    LineFault-long (λ (l : List ℕ) (x : ℕ × ℕ × ℕ). Header l x.0 x.1 x.2) k (λ e. cc) (λ x e. grind arith)
 
 -- ---- The lines after line 1
 
@@ -124,11 +136,3 @@ edge_judged n k line =
             ((short, h), record { source = low; label = label; target = low' }),
           )
     ]
-
--- If the error of a line after line 1 is `LineTooLong`, then this line is too long, and this error remains its error if
--- further bytes are appended to the line.
-pub EdgeFault-long : (n k : ℕ) (line : List ℕ) (j : ℕ) → EdgeFault n k line (LineTooLong j) →
-    (LONGEST_LINE < length line) × ((tail : List ℕ) → EdgeFault n k (line ++ tail) (LineTooLong j))
-EdgeFault-long n k line j bad =
-    let (e, long) : (LineTooLong j ≡ LineTooLong k) × (LONGEST_LINE < length line) = grind arith in
-    (long, λ tail. too_long e (omega (arith, length-append line tail)))
