@@ -1,16 +1,13 @@
 use Rattle.std.proofs.Common.{sym, ◌∙◌}
 use Rattle.std.specs.Str.{bytes_eq}
-use Rattle.lts.proofs.Table.{position-map, list_any-map, absent, IsLabelId-position}
+use Rattle.lts.proofs.Table.{absent, IsLabelId-position}
 use Rattle.std.proofs.lemmas.Map.Made.{is_some-lookup}
-use Rattle.indexmap.specs.IndexMap.{keys}
 use Rattle.lts.proofs.labels.Labels.find.Goals as goal
 
 pub returns-in_err-k : goal.returns-in_err-k
 returns-in_err-k c = rw c.from_residual.ensures
-    (rw (← c.self.view_is) (absent _ _ (list_any-map (bytes_eq c.args.b.now) (λ v. v.items) (keys c.self.inside.texts)
-    ∙ sym (is_some-lookup (λ v. bytes_eq c.args.b.now v.items) c.self.inside.texts.entries)
-    ∙ sym c.in_err-k.ensures.found)))
+    (rw (← c.self.view_is) (absent _ _ _ (sym (is_some-lookup (λ v. bytes_eq c.args.b.now v.items)
+    c.self.inside.texts.entries) ∙ sym c.in_err-k.ensures.found)))
 
 pub returns : goal.returns
-returns c = rw (← c.self.view_is) (IsLabelId-position _ _ _ (position-map (bytes_eq c.args.b.now) (λ v. v.items)
-    (keys c.self.inside.texts) ∙ sym c.in_ok-k.ensures.index))
+returns c = rw (← c.self.view_is) (IsLabelId-position _ _ _ _ (sym c.in_ok-k.ensures.index))

@@ -3,7 +3,7 @@ use Rattle.std.proofs.Common.{rules, ◌≡◌, ◌∙◌, ◌<◌, length, Cont
 use Rattle.std.specs.List.{list_any}
 use Rattle.std.specs.Str.{bytes_eq}
 use Rattle.memory.specs.declared.limits.TheConstants.{MOST_LABELS}
-use Rattle.lts.proofs.Table.{position-map, list_any-map, absent, IsLabelId-position, IsTable-push}
+use Rattle.lts.proofs.Table.{absent, IsLabelId-position, IsTable-push}
 use Rattle.std.proofs.lemmas.Map.Made.{is_some-lookup}
 use Rattle.indexmap.proofs.SetLemmas.{keys_insert_entry}
 use Rattle.indexmap.specs.IndexMap.{keys}
@@ -11,8 +11,7 @@ use Rattle.lts.proofs.labels.Labels.intern.Goals as goal
 
 pub returns-in-Some-clause-number : goal.returns-in-Some-clause-number
 returns-in-Some-clause-number c =
-    rw (← c.self.view_is) (IsLabelId-position _ _ _ (position-map (bytes_eq c.args.b.now) (λ v. v.items)
-    (keys c.self.inside.texts) ∙ sym c.get_index_of.ensures.index ∙ c.in-Some.is))
+    rw (← c.self.view_is) (IsLabelId-position _ _ _ _ (sym c.get_index_of.ensures.index ∙ c.in-Some.is))
 
 pub returns-in-Some-clause-table : goal.returns-in-Some-clause-table
 returns-in-Some-clause-table c = search (rules, returns-in-Some-clause-number)
@@ -31,7 +30,7 @@ grown c =
     ∙ ap (λ t. map (λ v. v.items) (keys c.self.inside.texts) ++ t ∷ []) c.in_ok-text.ensures.items
 
 new : (c : goal.In_ok-insert) → ¬ Contains (map (λ v. v.items) (keys c.self.inside.texts)) c.args.b.now
-new c = absent _ _ (list_any-map (bytes_eq c.args.b.now) (λ v. v.items) (keys c.self.inside.texts) ∙ none c)
+new c = absent _ _ _ (none c)
 
 pub invariant_of-self-2 : goal.invariant_of-self-2
 invariant_of-self-2 c =
