@@ -8,15 +8,13 @@ use Rattle.std.specs.List.{All}
 use Rattle.std.specs.List.Sorted.{IsNonDecreasingBy}
 use Rattle.std.proofs.lemmas.Bool.{cases_lt}
 use Rattle.std.proofs.lemmas.List.{length_push, append_assoc, map-append, map_push, take_more, get_or_push, places}
-use Rattle.std.proofs.lemmas.List.{same_lists}
-use Rattle.std.proofs.lemmas.List.{length-append, length-map, map-id}
+use Rattle.std.proofs.lemmas.List.{same_lists, length-append, length-map, map-id}
 use Rattle.std.proofs.lemmas.List.Elements.{All-map, Contains-push, Contains-append_left}
 use Rattle.theory.specs.System.{Transition}
 use Rattle.theory.specs.Union.{shifted, union_of}
 use Rattle.lts.specs.Labels.{text_of, IsLabelId, IsTable, KeepsLabels, Interns}
 use Rattle.lts.specs.Lts.{Triple, source_of, label_of, target_of, place_at, transition_of, system_of, grouped, IsTriple}
-use Rattle.lts.specs.Lts.{IsLts}
-use Rattle.lts.specs.Lts.{IsUsedLabel, Grouped, IsBuilt}
+use Rattle.lts.specs.Lts.{IsLts, IsUsedLabel, Grouped, IsBuilt}
 use Rattle.lts.specs.Meter.{Counts, Costs}
 use Rattle.lts.specs.Union.{IsJoined, AddsShifted}
 use Rattle.lts.proofs.Rows.{ascending-append, ascending-map, ascending-from_map, grouped-same}
@@ -50,13 +48,10 @@ module _ (old new : List (List ℕ)) (states : ℕ) (es : List Triple) (e : Trip
   carried_all : (k : ℕ) → k < length new → (x : Triple) × Contains (es ++ e ∷ []) x × (label_of x ≡ k)
   carried_all k h = elim (cases_lt k (length old)) [
     | inl l ↦ let c = g.carried k l in (c.0, Contains-append_left es (e ∷ []) c.0 c.1, c.2)
-    | inr l ↦ elim put [
-      | inl known ↦ absurd (omega (arith, ap length known.1))
-      | inr grown ↦
-          let last : length old ≡ k = omega (arith, ap length grown.1, length_push old a) in
-          let text = ap (λ t. text_of t k) grown.1 ∙ get_or_push old a [] k last in
-          (e, Contains-push es e, table.different (label_of e) k number.below h (number.text ∙ sym text))
-    ]
+    | inr l ↦
+        let same = table.different (label_of e) k number.below h in
+        let grown = length_push {X = List ℕ} in let last = get_or_push {X = List ℕ} in
+        (e, Contains-push es e, grind (arith, same, number.text, put, grown, last))
   ]
 
   -- States are numbers. The triples of a union represent the transitions of the system l with the number `shift` added
@@ -101,8 +96,9 @@ ascending-union a b la lb =
     (All-map (λ e. a.states ≤ e.source) (shifted a.states) (map (transition_of b.labels) b.places)
     (λ k d h. omega arith))
     (ascending-map (λ e. e.source) (transition_of a.labels) a.places la.ascending)
-    (ascending-map (λ e. e.source) (shifted a.states) (map (transition_of b.labels) b.places) (λ i j d h l.
-    let up = ascending-map (λ e. e.source) (transition_of b.labels) b.places lb.ascending i j d h l in omega arith))
+    (ascending-map (λ e. e.source) (shifted a.states) (map (transition_of b.labels) b.places)
+    (ascending-map (λ e. a.states + e.source) (transition_of b.labels) b.places
+    (λ i j d h l. omega (arith, lb.ascending i j d h l))))
 
 -- `IsUnion` holds if u is the disjoint union of the systems a and b, and each label in the table of u is the label of
 -- some transition.
