@@ -39,43 +39,29 @@ use Rattle.autbis.specs.Reports.{ShowsCountsOf, status_of}
 use Rattle.autbis.specs.Runs.{IsFaulty, IsReadable, Request, MinimisationFails, MinimisesTo, Used}
 use Rattle.autbis.specs.Runs.MinimisationFails.{not_read, out_of_memory, not_written}
 use Rattle.autbis.proofs.Carried.{all_taken, of_all}
-use Rattle.autbis.proofs.InOrder.{told_then}
+use Rattle.autbis.proofs.InOrder.{revealed_then}
+
+-- `NotBoth Good Bad` holds if no text satisfies `Good` and has the error `Bad` at the same time.
+abbrev pub NotBoth : {X : Type 0} → (List ℕ → X → Type 0) → (List ℕ → Fault → Type 0) → Type 0
+NotBoth {X} Good Bad = (text : List ℕ) (x : X) (f : Fault) → Good text x → ¬ Bad text f
 
 -- Let `given` be the bytes that were read from a source, which is an object from which an input is read. Suppose that
--- the property P holds for the text that consists of `given` and of all bytes that have not been read yet. If the
--- contract of the source states the whole input (`revealed`), then P holds for the whole input.
-told_whole : (P : List ℕ → Type 0) (given : List ℕ) (revealed rest : Option (List ℕ)) → Consumes revealed rest given →
-    IfSome rest (λ more. P (given ++ more)) → IfSome revealed P
-told_whole P given None rest took first = tt
-told_whole P given (Some text) None took first = absurd took
-told_whole P given (Some text) (Some more) took first = subst P (sym took) first
-
--- `NotBoth` holds if no text describes a system and has an error (`FirstFault`) at the same time.
-abbrev pub NotBoth : Bounds → Type 0
-NotBoth bounds = (text : List ℕ) (A : System) (f : Fault) → Reads bounds text A → ¬ FirstFault bounds text f
-
--- If the contents of an input have an error (`FirstFault`), then these contents describe no system (`IsFaulty`).
-is_faulty : (bounds : Bounds) → NotBoth bounds → (fault : Fault) (revealed : Option (List ℕ)) →
-    IfSome revealed (λ text. FirstFault bounds text fault) →
-    IfSome revealed (IsFaulty bounds)
-is_faulty bounds law fault None first = tt
-is_faulty bounds law fault (Some text) first = λ A reads. law text A fault reads first
+-- the text that consists of `given` and of all bytes that have not been read yet has an error (`Bad`). If the
+-- contract of the source states the whole input (`revealed`), then the input is not correct (`Good`).
+revealed_is_faulty : {X : Type 0} {Good : List ℕ → X → Type 0} {Bad : List ℕ → Fault → Type 0} →
+    NotBoth Good Bad → (given : List ℕ) (revealed rest : Option (List ℕ)) (fault : Fault) →
+    Consumes revealed rest given → IfSome rest (λ more. Bad (given ++ more) fault) →
+    IfSome revealed (λ text. (x : X) → ¬ Good text x)
+revealed_is_faulty law given None rest fault took first = tt
+revealed_is_faulty law given (Some text) None fault took first = absurd took
+revealed_is_faulty {Bad = Bad} law given (Some text) (Some more) fault took first =
+    λ x good. law text x fault good (subst (λ bytes. Bad bytes fault) (sym took) first)
 
 -- If the error `fault` is an error in the contents of an input, then the exit status for `fault` is 2.
 text_status : (fault : Fault) → IsTextFault fault → status_of fault ≡ 2
 text_status Device h = absurd h
 text_status Memory h = absurd h
 text_status _ h = refl
-
--- Let `given` be the bytes that were read from a source, which is an object from which an input is read. Suppose that
--- the text that consists of `given` and of all bytes that have not been read yet has an error (`FirstFault`). If the
--- contract of the source states the whole input (`revealed`), then the input describes no system (`IsFaulty`).
-faulty_told : (bounds : Bounds) → NotBoth bounds → (given : List ℕ) (revealed rest : Option (List ℕ)) (fault : Fault) →
-    Consumes revealed rest given →
-    IfSome rest (λ more. FirstFault bounds (given ++ more) fault) → IfSome revealed (IsFaulty bounds)
-faulty_told bounds law given revealed rest fault took first =
-    is_faulty bounds law fault revealed (told_whole (λ text. FirstFault bounds text fault) given revealed rest took
-    first)
 
 -- `EndsRun` states how a run (a minimisation or a comparison) ended. Suppose that a minimisation succeeded, as
 -- `MinimisesTo` states. Then `EndsRun` holds with the exit status 0.
@@ -87,7 +73,7 @@ ends_minimised took ran =
     answered ran.exhausted.1 (listed ran.to.output)
     (of_all _ _ _ _ took ran.exhausted.0 (ran.to, refl, refl)) ran.written
 
-module _ {Out : Type 0} (asked : Request) (law : NotBoth asked.bounds) (output : Used Out) where
+module _ {Out : Type 0} (asked : Request) (law : NotBoth (Reads asked.bounds) (FirstFault asked.bounds)) (output : Used Out) where
   -- `EndsRun` states how a run (a minimisation or a comparison) ended. Suppose that no system could be read from an
   -- input, that the error `fault` is the reason, and that nothing was written. Then `EndsRun` holds with the exit
   -- status for `fault`.
@@ -98,7 +84,7 @@ module _ {Out : Type 0} (asked : Request) (law : NotBoth asked.bounds) (output :
       Refuses asked.bounds given rest failures fault → EndsRun asked contents Sound Lost output (status_of fault)
   ends_unread given revealed rest failures fault took kept sound loses wrong (faulty_text zero of_text first) =
       faulty (sound zero) (text_status fault of_text)
-      (wrong (faulty_told asked.bounds law given revealed rest fault took first)) kept
+      (wrong (revealed_is_faulty law given revealed rest fault took first)) kept
   ends_unread given revealed rest failures fault took kept sound loses wrong (failed_source failed device unknown) =
       lost (loses failed) (ap status_of device) kept
   ends_unread given revealed rest failures fault took kept sound loses wrong (refused_memory zero memory header) =
@@ -166,78 +152,66 @@ module _ {Out : Type 0} (asked : Request) (law : NotBoth asked.bounds) (output :
 -- case, the contents are the list `revealed`. Suppose that the property P implies the property Q, and that P holds for
 -- the actual contents of the input. If the contract states the contents, then Q holds for the stated contents.
 -- Otherwise, Q holds for some text.
-of_told : (revealed text : Option (List ℕ)) {P Q : List ℕ → Type 0} → ((given : List ℕ) → P given → Q given) →
+of_revealed : (revealed text : Option (List ℕ)) {P Q : List ℕ → Type 0} → ((given : List ℕ) → P given → Q given) →
     IfSome revealed (λ bytes. text ≡ Some bytes) → OfText text P → OfText revealed Q
-of_told None text follows is (given, _, holds) = (given, tt, follows given holds)
-of_told (Some bytes) text follows is (given, same, holds) = (given, rw is at same, follows given holds)
+of_revealed None text follows is (given, _, holds) = (given, tt, follows given holds)
+of_revealed (Some bytes) text follows is (given, same, holds) = (given, rw is at same, follows given holds)
 
 module _ (asked : Request) where
   -- The contract of the opener (an object that opens files by their names) may state the contents of the inputs. If
   -- `bytes` is the correct output for the actual contents, then `bytes` is the correct output for the stated contents
   -- as well.
-  answer_told : (bytes : List ℕ) (status : ℕ) (revealed contents : Contents) → AreAsRevealed revealed contents →
+  answer_for_revealed : (bytes : List ℕ) (status : ℕ) (revealed contents : Contents) → AreAsRevealed revealed contents →
       IsAnswer asked contents bytes status → IsAnswer asked revealed bytes status
-  answer_told bytes status (one revealed) (one text) is answer = of_told revealed text (λ given h. h) is answer
-  answer_told bytes status (two revealed more) (two text other) (is, also) answer =
-      of_told revealed text (λ given. of_told more other (λ next h. h) also) is answer
-  answer_told bytes status (one revealed) (two text other) is answer = absurd is
-  answer_told bytes status (two revealed more) (one text) is answer = absurd is
+  answer_for_revealed bytes status (one revealed) (one text) is answer = of_revealed revealed text (λ given h. h) is answer
+  answer_for_revealed bytes status (two revealed more) (two text other) (is, also) answer =
+      of_revealed revealed text (λ given. of_revealed more other (λ next h. h) also) is answer
+  answer_for_revealed bytes status (one revealed) (two text other) is answer = absurd is
+  answer_for_revealed bytes status (two revealed more) (one text) is answer = absurd is
 
   -- `ShowsCountsOf` states that a prefix of the line that `--stats` asks for was written to standard error. The
   -- contract of the opener (an object that opens files by their names) may state the contents of the inputs. If
   -- `ShowsCountsOf` holds for the actual contents, then it holds for the stated contents as well.
-  pub shown_told : (old new : Option (List ℕ)) (revealed contents : Contents) → AreAsRevealed revealed contents →
+  pub shown_for_revealed : (old new : Option (List ℕ)) (revealed contents : Contents) → AreAsRevealed revealed contents →
       ShowsCountsOf asked contents old new → ShowsCountsOf asked revealed old new
-  shown_told old new (one revealed) (one text) is shown = of_told revealed text (λ given h. h) is shown
-  shown_told old new (two revealed more) (two text other) is shown = absurd shown
-  shown_told old new (one revealed) (two text other) is shown = absurd is
-  shown_told old new (two revealed more) (one text) is shown = absurd is
+  shown_for_revealed old new (one revealed) (one text) is shown = of_revealed revealed text (λ given h. h) is shown
+  shown_for_revealed old new (two revealed more) (two text other) is shown = absurd shown
+  shown_for_revealed old new (one revealed) (two text other) is shown = absurd is
+  shown_for_revealed old new (two revealed more) (one text) is shown = absurd is
 
   -- The contract of the opener (an object that opens files by their names) may state the contents of the inputs. If the
   -- actual contents of an input are incorrect, then the stated contents are incorrect as well.
-  fault_told : (revealed contents : Contents) → AreAsRevealed revealed contents → HasFaultyText asked.bounds contents →
+  fault_in_revealed : (revealed contents : Contents) → AreAsRevealed revealed contents → HasFaultyText asked.bounds contents →
       HasFaultyText asked.bounds revealed
-  fault_told (one revealed) (one text) is wrong = told_then revealed text _ is wrong
-  fault_told (two revealed more) (two text other) (is, also) (inl wrong) = inl (told_then revealed text _ is wrong)
-  fault_told (two revealed more) (two text other) (is, also) (inr (reads, wrong)) =
-      inr (told_then revealed text _ is reads, told_then more other _ also wrong)
-  fault_told (one revealed) (two text other) is wrong = absurd is
-  fault_told (two revealed more) (one text) is wrong = absurd is
+  fault_in_revealed (one revealed) (one text) is wrong = revealed_then revealed text _ is wrong
+  fault_in_revealed (two revealed more) (two text other) (is, also) (inl wrong) = inl (revealed_then revealed text _ is wrong)
+  fault_in_revealed (two revealed more) (two text other) (is, also) (inr (reads, wrong)) =
+      inr (revealed_then revealed text _ is reads, revealed_then more other _ also wrong)
+  fault_in_revealed (one revealed) (two text other) is wrong = absurd is
+  fault_in_revealed (two revealed more) (one text) is wrong = absurd is
 
 -- `AreAsRevealed` holds if each input has the contents that a contract states for it, if any. This lemma says that this
 -- is the case if the stated contents are taken as the actual contents.
-pub told_itself : (revealed : Option (List ℕ)) → IfSome revealed (λ bytes. revealed ≡ Some bytes)
-told_itself None = tt
-told_itself (Some bytes) = refl
+pub reveals_itself : (revealed : Option (List ℕ)) → IfSome revealed (λ bytes. revealed ≡ Some bytes)
+reveals_itself None = tt
+reveals_itself (Some bytes) = refl
 
 -- `EndsRun` states how a run (a minimisation or a comparison) ended. The contract of the opener (an object that opens
 -- files by their names) may state the contents of the inputs. If `EndsRun` holds for the actual contents of the inputs,
 -- then `EndsRun` holds for the stated contents as well. In addition, the conditions `Sound` (no read has failed) and
 -- `Lost` (a read has failed) may be replaced by conditions that follow from them.
-pub ends_told : {Out : Type 0} {asked : Request} {revealed contents : Contents} {Sound Lost Sound' Lost' : Type 0}
+pub ends_for_revealed : {Out : Type 0} {asked : Request} {revealed contents : Contents} {Sound Lost Sound' Lost' : Type 0}
     {output : Used Out} {status : ℕ} → AreAsRevealed revealed contents →
     (Sound → Sound') → (Lost → Lost') → EndsRun asked contents Sound Lost output status →
     EndsRun asked revealed Sound' Lost' output status
-ends_told {asked = asked} {revealed = revealed} is sound loses (answered zero bytes answer gains) =
-    answered (sound zero) bytes (answer_told asked _ _ revealed _ is answer) gains
-ends_told {asked = asked} {revealed = revealed} is sound loses (faulty zero exit wrong kept) =
-    faulty (sound zero) exit (fault_told asked revealed _ is wrong) kept
-ends_told is sound loses (no_memory zero exit kept) = no_memory (sound zero) exit kept
-ends_told {asked = asked} {revealed = revealed} is sound loses (cut_short zero exit bytes wanted answer broken) =
-    cut_short (sound zero) exit bytes wanted (answer_told asked _ _ revealed _ is answer) broken
-ends_told is sound loses (lost failed exit kept) = lost (loses failed) exit kept
-
--- `NotBothOfList` holds if no correct hide list (a file with the labels to hide) has an error (`FirstHideFault`).
-abbrev pub NotBothOfList : Type 0
-NotBothOfList = (text : List ℕ) (H : List (List ℕ)) (f : Fault) → HideReads text H → ¬ FirstHideFault text f
-
--- If the contents of a hide list (a file with the labels to hide) have an error (`FirstHideFault`), then these contents
--- cannot be read as a list of labels (`HideReads`).
-is_faulty_list : NotBothOfList → (fault : Fault) (revealed : Option (List ℕ)) →
-    IfSome revealed (λ text. FirstHideFault text fault)
-    → IfSome revealed (λ list. (H : List (List ℕ)) → ¬ HideReads list H)
-is_faulty_list law fault None first = tt
-is_faulty_list law fault (Some text) first = λ H reads. law text H fault reads first
+ends_for_revealed {asked = asked} {revealed = revealed} is sound loses (answered zero bytes answer gains) =
+    answered (sound zero) bytes (answer_for_revealed asked _ _ revealed _ is answer) gains
+ends_for_revealed {asked = asked} {revealed = revealed} is sound loses (faulty zero exit wrong kept) =
+    faulty (sound zero) exit (fault_in_revealed asked revealed _ is wrong) kept
+ends_for_revealed is sound loses (no_memory zero exit kept) = no_memory (sound zero) exit kept
+ends_for_revealed {asked = asked} {revealed = revealed} is sound loses (cut_short zero exit bytes wanted answer broken) =
+    cut_short (sound zero) exit bytes wanted (answer_for_revealed asked _ _ revealed _ is answer) broken
+ends_for_revealed is sound loses (lost failed exit kept) = lost (loses failed) exit kept
 
 -- If the error `fault` is an error in the contents of a hide list (a file with the labels to hide), then the exit
 -- status for `fault` is 2.
@@ -251,15 +225,15 @@ list_status _ h = refl
 -- together.
 pub list_unread : {F : Type 0} (files : FilesUsed F) (name : Name) (revealed : Option (List ℕ))
     {given : List ℕ} {rest : Option (List ℕ)} {failures : ℕ} {fault : Fault} →
-    NotBothOfList → IfSome (files.holds files.old name) (λ bytes. revealed ≡ Some bytes) → Consumes revealed rest given
-    →
+    NotBoth HideReads FirstHideFault → IfSome (files.holds files.old name) (λ bytes. revealed ≡ Some bytes) →
+    Consumes revealed rest given →
     (failures ≡ 0 → HasLostNone files) → (failures ≡ 1 → files.lost files.new ≡ 1) →
     HideRefuses given rest failures fault → HideListFails files (Some name) (status_of fault)
 list_unread files name revealed {given} {rest} {failures} {fault} law is took none loses
     (list_fault sound of_list first) =
-    let wrong =
-    is_faulty_list law fault revealed (told_whole (λ text. FirstHideFault text fault) given revealed rest took first) in
-    list_faulty (none sound) (told_then (files.holds files.old name) revealed _ is wrong) (list_status fault of_list)
+    list_faulty (none sound)
+    (revealed_then (files.holds files.old name) revealed _ is (revealed_is_faulty law given revealed rest fault took first))
+    (list_status fault of_list)
 list_unread files name revealed law is took none loses (list_lost failed device unknown) =
     list_failed (λ unnamed. none-some _ (sym unnamed)) (loses failed) (ap status_of device)
 list_unread files name revealed law is took none loses (list_memory sound memory) =
