@@ -32,73 +32,74 @@ pub record Census : Type 0 where
   pub leaders : List ℕ
 
 -- A census describes the classes of a system, and the leaders, which are states that represent their classes.
--- `is_census` returns true if the census `told` of the system A is correct.
+-- `is_census` returns true if the census `census` of the system A is correct.
 abbrev pub is_census : Relation → System → Census → Bool
-is_census rel A told =
-    and_then (are_classes rel A told.block told.pairs told.turns) (λ _.
-    and_then (are_leaders A told.block told.lead told.leaders) (λ _. rises told.leaders))
+is_census rel A census =
+    and_then (are_classes rel A census.block census.pairs census.turns) (λ _.
+    and_then (are_leaders A census.block census.lead census.leaders) (λ _. rises census.leaders))
 
-census_parts : (rel : Relation) (A : System) (told : Census) → is_census rel A told ≡ true →
-    (are_classes rel A told.block told.pairs told.turns ≡ true)
-    × (are_leaders A told.block told.lead told.leaders ≡ true) × (rises told.leaders ≡ true)
-census_parts rel A told h =
-    let first = and_then_parts (are_classes rel A told.block told.pairs told.turns) (λ _.
-    and_then (are_leaders A told.block told.lead told.leaders) (λ _. rises told.leaders)) h in
-    let second = and_then_parts (are_leaders A told.block told.lead told.leaders) (λ _. rises told.leaders) first.1 in
+census_parts : (rel : Relation) (A : System) (census : Census) → is_census rel A census ≡ true →
+    (are_classes rel A census.block census.pairs census.turns ≡ true)
+    × (are_leaders A census.block census.lead census.leaders ≡ true) × (rises census.leaders ≡ true)
+census_parts rel A census h =
+    let first = and_then_parts (are_classes rel A census.block census.pairs census.turns) (λ _.
+    and_then (are_leaders A census.block census.lead census.leaders) (λ _. rises census.leaders)) h in
+    let second =
+    and_then_parts (are_leaders A census.block census.lead census.leaders) (λ _. rises census.leaders) first.1 in
     (first.0, second.0, second.1)
 
 -- A census describes the classes of a system, and the leaders, which are states that represent their classes. Suppose
 -- that the census of A is correct, and that the function `divides`, which tests whether a system is the quotient of A,
 -- returns true for Q. Then Q is the quotient of A.
 pub is_quotient :
-    (rel : Relation) (A Q : System) (told : Census) → is_census rel A told ≡ true →
-    divides rel A told.lead told.leaders Q ≡ true → Quotient rel A Q
-is_quotient rel A Q told h d =
-    let parts = census_parts rel A told h in
-    quotient_passes rel A Q told.block told.pairs told.turns told.lead told.leaders parts.0 parts.1 parts.2 d
+    (rel : Relation) (A Q : System) (census : Census) → is_census rel A census ≡ true →
+    divides rel A census.lead census.leaders Q ≡ true → Quotient rel A Q
+is_quotient rel A Q census h d =
+    let parts = census_parts rel A census h in
+    quotient_passes rel A Q census.block census.pairs census.turns census.lead census.leaders parts.0 parts.1 parts.2 d
 
 -- A census describes the classes of a system, and the leaders, which are states that represent their classes. The list
--- `told` consists of triples of a system, a second system, and a census of the first system. Suppose that, in each
+-- `census` consists of triples of a system, a second system, and a census of the first system. Suppose that, in each
 -- triple, the census is correct, and the test `divides` (is the second system the quotient of the first system?)
 -- returns true. Then, in each triple, the second system is the quotient of the first system.
 pub are_quotients :
-    (rel : Relation) (told : List (System × System × Census)) →
-    every told (λ x. and_then (is_census rel x.0 x.2) (λ _. divides rel x.0 x.2.lead x.2.leaders x.1)) ≡ true →
-    AreQuotients rel (map (λ x. (x.0, x.1)) told)
+    (rel : Relation) (census : List (System × System × Census)) →
+    every census (λ x. and_then (is_census rel x.0 x.2) (λ _. divides rel x.0 x.2.lead x.2.leaders x.1)) ≡ true →
+    AreQuotients rel (map (λ x. (x.0, x.1)) census)
 are_quotients rel [] h = tt
-are_quotients rel ((A, Q, told) ∷ rest) h =
+are_quotients rel ((A, Q, census) ∷ rest) h =
     let test = λ (x : System × System × Census). and_then (is_census rel x.0 x.2)
     (λ _. divides rel x.0 x.2.lead x.2.leaders x.1) in
-    let first = and_then_parts (test (A, Q, told)) (λ _. every rest test) h in
-    let parts = and_then_parts (is_census rel A told) (λ _. divides rel A told.lead told.leaders Q) first.0 in
-    (is_quotient rel A Q told parts.0 parts.1, are_quotients rel rest first.1)
+    let first = and_then_parts (test (A, Q, census)) (λ _. every rest test) h in
+    let parts = and_then_parts (is_census rel A census) (λ _. divides rel A census.lead census.leaders Q) first.0 in
+    (is_quotient rel A Q census parts.0 parts.1, are_quotients rel rest first.1)
 
 -- A census describes the classes of a system, and the leaders, which are states that represent their classes. Suppose
 -- that the census is correct, that the state s is reachable, and that the function `number_at` computes the number n
 -- for the leader of s in the census. Then n is the class number of s, which is the number of the quotient state that
 -- the class of s becomes.
 pub is_number :
-    (rel : Relation) (A : System) (s n : ℕ) (told : Census) → is_census rel A told ≡ true →
-    and_then (has (reachable A) s) (λ _. eqb (number_at A told.leaders (told.lead s)) n) ≡ true → Number rel A s n
-is_number rel A s n told h d =
-    let parts = census_parts rel A told h in
-    let both = and_then_parts (has (reachable A) s) (λ _. eqb (number_at A told.leaders (told.lead s)) n) d in
-    subst (Number rel A s) (eqb-true (number_at A told.leaders (told.lead s)) n both.1)
-    (number_is rel A told.block told.lead told.leaders
-    (classes_pass rel A told.block told.pairs told.turns parts.0) parts.1 parts.2
+    (rel : Relation) (A : System) (s n : ℕ) (census : Census) → is_census rel A census ≡ true →
+    and_then (has (reachable A) s) (λ _. eqb (number_at A census.leaders (census.lead s)) n) ≡ true → Number rel A s n
+is_number rel A s n census h d =
+    let parts = census_parts rel A census h in
+    let both = and_then_parts (has (reachable A) s) (λ _. eqb (number_at A census.leaders (census.lead s)) n) d in
+    subst (Number rel A s) (eqb-true (number_at A census.leaders (census.lead s)) n both.1)
+    (number_is rel A census.block census.lead census.leaders
+    (classes_pass rel A census.block census.pairs census.turns parts.0) parts.1 parts.2
     s (reachable_found A s (has_contains (reachable A) s both.0)))
 
 -- A census describes the classes of a system, and the leaders, which are states that represent their classes. Suppose
 -- that the census is correct, and that it gives the leader l for the reachable state s. Then l is the leader of s.
 pub is_led :
-    (rel : Relation) (A : System) (s l : ℕ) (told : Census) → is_census rel A told ≡ true →
-    and_then (has (reachable A) s) (λ _. eqb (told.lead s) l) ≡ true → Leader rel A s l
-is_led rel A s l told h d =
-    let parts = census_parts rel A told h in
-    let both = and_then_parts (has (reachable A) s) (λ _. eqb (told.lead s) l) d in
-    subst (Leader rel A s) (eqb-true (told.lead s) l both.1)
-    (leader_is rel A told.block told.lead told.leaders
-    (classes_pass rel A told.block told.pairs told.turns parts.0) parts.1
+    (rel : Relation) (A : System) (s l : ℕ) (census : Census) → is_census rel A census ≡ true →
+    and_then (has (reachable A) s) (λ _. eqb (census.lead s) l) ≡ true → Leader rel A s l
+is_led rel A s l census h d =
+    let parts = census_parts rel A census h in
+    let both = and_then_parts (has (reachable A) s) (λ _. eqb (census.lead s) l) d in
+    subst (Leader rel A s) (eqb-true (census.lead s) l both.1)
+    (leader_is rel A census.block census.lead census.leaders
+    (classes_pass rel A census.block census.pairs census.turns parts.0) parts.1
     s (reachable_found A s (has_contains (reachable A) s both.0)))
 
 -- A census describes the classes of a system, and the leaders, which are states that represent their classes.
@@ -106,21 +107,21 @@ is_led rel A s l told h d =
 -- according to the census. The class number of a state is the number of the quotient state that the class of this state
 -- becomes.
 abbrev pub lists_numbers : System → List ℕ → Census → Bool
-lists_numbers A numbers told =
+lists_numbers A numbers census =
     and_then (eqb (length numbers) A.states) (λ _.
-    each_below A.states (λ s. and_then (has (reachable A) s) (λ _. eqb (number_at A told.leaders (told.lead s))
+    each_below A.states (λ s. and_then (has (reachable A) s) (λ _. eqb (number_at A census.leaders (census.lead s))
     (slice_index numbers s))))
 
 numbers_are :
-    (rel : Relation) (A : System) (numbers : List ℕ) (told : Census) → is_census rel A told ≡ true →
-    lists_numbers A numbers told ≡ true → NumbersAre rel A numbers
-numbers_are rel A numbers told h d =
-    let test = λ (s : ℕ). and_then (has (reachable A) s) (λ _. eqb (number_at A told.leaders (told.lead s))
+    (rel : Relation) (A : System) (numbers : List ℕ) (census : Census) → is_census rel A census ≡ true →
+    lists_numbers A numbers census ≡ true → NumbersAre rel A numbers
+numbers_are rel A numbers census h d =
+    let test = λ (s : ℕ). and_then (has (reachable A) s) (λ _. eqb (number_at A census.leaders (census.lead s))
     (slice_index numbers s)) in
     let parts = and_then_parts (eqb (length numbers) A.states) (λ _. each_below A.states test) d in
     record {
       all = eqb-true (length numbers) A.states parts.0;
-      each = λ s l. is_number rel A s (slice_index numbers s) told h (each_below_passes A.states test parts.1 s l);
+      each = λ s l. is_number rel A s (slice_index numbers s) census h (each_below_passes A.states test parts.1 s l);
     }
 
 -- A census describes the classes of a system, and the leaders, which are states that represent their classes. Suppose
@@ -128,42 +129,43 @@ numbers_are rel A numbers told h d =
 -- that `lists_numbers` returns true for the list `numbers`. Then Q is the quotient of A, and the list `numbers` gives
 -- the class number of each state of A, which is the number of the quotient state that the class of this state becomes.
 pub quotient_is :
-    (rel : Relation) (A Q : System) (numbers : List ℕ) (told : Census) → is_census rel A told ≡ true →
-    divides rel A told.lead told.leaders Q ≡ true → lists_numbers A numbers told ≡ true → QuotientIs rel A Q numbers
-quotient_is rel A Q numbers told h d l = record {
-  quotient = is_quotient rel A Q told h d;
-  numbers = numbers_are rel A numbers told h l;
+    (rel : Relation) (A Q : System) (numbers : List ℕ) (census : Census) → is_census rel A census ≡ true →
+    divides rel A census.lead census.leaders Q ≡ true → lists_numbers A numbers census ≡ true →
+    QuotientIs rel A Q numbers
+quotient_is rel A Q numbers census h d l = record {
+  quotient = is_quotient rel A Q census h d;
+  numbers = numbers_are rel A numbers census h l;
 }
 
 -- A census describes the classes of a system, and the leaders, which are states that represent their classes.
 -- `lists_leaders` returns true if all states are reachable, and the list `leaders` gives, for each state, the leader of
 -- this state in the census.
 abbrev pub lists_leaders : System → List ℕ → Census → Bool
-lists_leaders A leaders told =
+lists_leaders A leaders census =
     and_then (eqb (length leaders) A.states) (λ _.
-    each_below A.states (λ s. and_then (has (reachable A) s) (λ _. eqb (told.lead s) (slice_index leaders s))))
+    each_below A.states (λ s. and_then (has (reachable A) s) (λ _. eqb (census.lead s) (slice_index leaders s))))
 
 pub leaders_are :
-    (rel : Relation) (A : System) (leaders : List ℕ) (told : Census) → is_census rel A told ≡ true →
-    lists_leaders A leaders told ≡ true → LeadersAre rel A leaders
-leaders_are rel A leaders told h d =
-    let test = λ (s : ℕ). and_then (has (reachable A) s) (λ _. eqb (told.lead s) (slice_index leaders s)) in
+    (rel : Relation) (A : System) (leaders : List ℕ) (census : Census) → is_census rel A census ≡ true →
+    lists_leaders A leaders census ≡ true → LeadersAre rel A leaders
+leaders_are rel A leaders census h d =
+    let test = λ (s : ℕ). and_then (has (reachable A) s) (λ _. eqb (census.lead s) (slice_index leaders s)) in
     let parts = and_then_parts (eqb (length leaders) A.states) (λ _. each_below A.states test) d in
     record {
       all = eqb-true (length leaders) A.states parts.0;
-      each = λ s l. is_led rel A s (slice_index leaders s) told h (each_below_passes A.states test parts.1 s l);
+      each = λ s l. is_led rel A s (slice_index leaders s) census h (each_below_passes A.states test parts.1 s l);
     }
 
 -- A census describes the classes of a system, and the leaders, which are states that represent their classes. If the
 -- census is correct, and its list of leaders does not contain the state l, then l is not a leader.
 pub is_no_leader :
-    (rel : Relation) (A : System) (l : ℕ) (told : Census) → is_census rel A told ≡ true →
-    not (has told.leaders l) ≡ true → ¬ IsLeader rel A l
-is_no_leader rel A l told h d leads =
-    let parts = census_parts rel A told h in
-    not_passes (has told.leaders l) d (contains_has told.leaders l
-    (leader_listed rel A told.block told.lead told.leaders
-    (classes_pass rel A told.block told.pairs told.turns parts.0) parts.1 l leads))
+    (rel : Relation) (A : System) (l : ℕ) (census : Census) → is_census rel A census ≡ true →
+    not (has census.leaders l) ≡ true → ¬ IsLeader rel A l
+is_no_leader rel A l census h d leads =
+    let parts = census_parts rel A census h in
+    not_passes (has census.leaders l) d (contains_has census.leaders l
+    (leader_listed rel A census.block census.lead census.leaders
+    (classes_pass rel A census.block census.pairs census.turns parts.0) parts.1 l leads))
 
 -- Suppose that the list `reachable A` contains all reachable states. If this list does not contain the state s, then s
 -- is not reachable.
