@@ -19,7 +19,7 @@ use Rattle.autfmt.specs.Cutter.{IsPart}
 use Rattle.autfmt.specs.Faults.{LineFault, HeaderFault, EdgeFault, EndFault, EdgesFault, LinesFault, FirstFault}
 use Rattle.autfmt.specs.Faults.{JudgedFault}
 use Rattle.autfmt.proofs.Cutting.{Divides, ended_go_on, Grows, line_grows, some_line}
-use Rattle.autfmt.proofs.Decisions.{one_transition}
+use Rattle.autfmt.proofs.Lines.{one_transition}
 use Rattle.autfmt.proofs.Lists.{AllZip-firsts, AllZip-unique}
 use Rattle.autfmt.proofs.FirstFaults.{AreJudged, unique, behind, no_fault, lines_judged, no_long, stays_before, stays}
 use Rattle.autfmt.proofs.FirstFaults.{not_known}

@@ -17,7 +17,7 @@ use Rattle.autfmt.proofs.FirstFaults.{not_known}
 use Rattle.autfmt.proofs.Cutting.{Divides, ended_go_on, line_grows}
 use Rattle.autfmt.specs.Faults.LineFault.{too_long}
 use Rattle.autfmt.proofs.LineFaults.{LineFault-unique, LineFault-not_good, LineFault-long, line_judged}
-use Rattle.autfmt.proofs.Decisions.{one_hide_line, hide_line_reader}
+use Rattle.autfmt.proofs.Lines.{one_hide_line, hide_line_reader}
 use Rattle.autfmt.specs.declared.line.TheConstants.{LONGEST_LINE}
 use Rattle.autfmt.specs.declared.limits.TheConstants.{MOST_LINES}
 

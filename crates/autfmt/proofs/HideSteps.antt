@@ -1,7 +1,7 @@
 -- The lemmas in this file are about the steps in which a hide list (the labels to hide, one on each line) is read. The
 -- lemmas describe the state of the reader after each step, and justify each error that the reader returns.
-use Rattle.std.proofs.Common.{◌≡◌, ◌⊎◌, ◌↔◌, ⊎_elim, ℕ, ◌+◌, ◌<◌, ◌≤◌, true, false, List, [], ◌∷◌, ◌++◌, length, Option, Some}
-use Rattle.std.proofs.Common.{Contains, refl, sym, ◌∙◌, inl, inr, arith}
+use Rattle.std.proofs.Common.{◌≡◌, ◌⊎◌, ◌↔◌, ⊎_elim, ℕ, ◌+◌, ◌<◌, ◌≤◌, true, false, List, [], ◌∷◌, ◌++◌, length, Option}
+use Rattle.std.proofs.Common.{Some, Contains, refl, sym, ◌∙◌, inl, inr, arith}
 use Rattle.std.proofs.lemmas.Slice.Zip.{AllZip-long, all_zipped_more}
 use Rattle.std.proofs.lemmas.List.{append_assoc}
 use Rattle.std.proofs.lemmas.List.Elements.{All-nil, Contains-append_left, Contains-push, Contains-push_cases}
@@ -19,7 +19,7 @@ use Rattle.autfmt.specs.HideOutcomes.{HideRefuses}
 use Rattle.autfmt.specs.HideOutcomes.HideRefuses.{failed_source, faulty_text}
 use Rattle.autfmt.proofs.FirstFaults.{Next, behind}
 use Rattle.autfmt.proofs.HideLaws.{hides, no_judged_hide_fault}
-use Rattle.autfmt.proofs.HasCut.{HasCut-line, HasCut-too_long, HasCut-end, HasCut-more, HasCut-part}
+use Rattle.autfmt.proofs.Cutting.{HasCut-line, HasCut-too_long, HasCut-end, HasCut-more, HasCut-part}
 use Rattle.autfmt.proofs.ReaderSteps.{if_told, none_to_come, fresh}
 use Rattle.autfmt.specs.declared.limits.TheConstants.{MOST_LINES}
 

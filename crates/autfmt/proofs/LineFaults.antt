@@ -11,8 +11,8 @@ use Rattle.autfmt.specs.Grammar.{Header}
 use Rattle.autfmt.specs.Texts.{IsShort, GoodHeader, SpellsAmong}
 use Rattle.autfmt.specs.Faults.{LineFault, HeaderFault, numbers_fault, EdgeFault, ends_fault}
 use Rattle.autfmt.specs.Faults.LineFault.{too_long, unread, wrong}
-use Rattle.autfmt.proofs.Lines.{transition-label}
-use Rattle.autfmt.proofs.Decisions.{IsReader, one_reading, decided, header_reader, transition_reader, one_header}
+use Rattle.autfmt.proofs.Lines.{transition-label, IsReader, one_reading, decided, header_reader, transition_reader}
+use Rattle.autfmt.proofs.Lines.{one_header}
 use Rattle.autfmt.specs.declared.line.TheConstants.{LONGEST_LINE}
 
 -- Assume that the value x is the result of reading a line (`read`) if and only if x is the contents of the line

@@ -1,7 +1,7 @@
 -- The text that is written for a system can be read again. The result is the same system, with its transitions in the
 -- order in which they are written.
-use Rattle.std.proofs.Common.{◌≡◌, ℕ, rules, ◌<◌, ◌≤◌, ◌^◌, List, [], ◌∷◌, ◌++◌, length, map, codes, decimal}
-use Rattle.std.proofs.Common.{All, refl, ap, ◌∙◌, subst, inl, arith, append_assoc, length-append}
+use Rattle.std.proofs.Common.{◌≡◌, ℕ, rules, ◌<◌, ◌≤◌, ◌^◌, List, [], ◌∷◌, ◌++◌, length, map, codes, decimal, All, refl}
+use Rattle.std.proofs.Common.{ap, ◌∙◌, subst, inl, arith, append_assoc, length-append}
 use Rattle.std.proofs.lemmas.Grind.{common_steps}
 use Rattle.std.specs.List.{AllZip, AllByRecursion, flat_map}
 use Rattle.std.proofs.lemmas.Fmt.{length-decimal-le}
@@ -10,9 +10,8 @@ use Rattle.std.proofs.lemmas.List.Elements.{All-nil, All-head, All-tail, All-fro
 use Rattle.std.proofs.lemmas.List.Sorted.{All-permutation, IsPermutation-sym, length_permutation}
 use Rattle.theory.specs.System.{System, Transition, IsSystem, IsAmong, IsLabel}
 use Rattle.autfmt.specs.Bounds.{Bounds, IsWithinFile}
-use Rattle.autfmt.proofs.Blanks.{IsBlank}
+use Rattle.autfmt.proofs.Tokens.{IsBlank, IsLabel-spelled}
 use Rattle.autfmt.proofs.Cutting.{lines_of-feed}
-use Rattle.autfmt.proofs.Labels.{IsLabel-spelled}
 use Rattle.autfmt.proofs.Lines.{Header-one, TransitionLine-one}
 use Rattle.autfmt.proofs.Lists.{AllZip-firsts}
 use Rattle.autfmt.specs.Grammar.{Blanks, Spaced, Label, Header}

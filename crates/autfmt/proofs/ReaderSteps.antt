@@ -1,13 +1,18 @@
 -- The lemmas in this file are about the steps in which a system is read. The lemmas describe the state of the reader
--- after each step, and justify each error that the reader returns.
-use Rattle.std.proofs.Common.{◌≡◌, ◌⊎◌, ℕ, ◌+◌, ◌<◌, ◌≤◌, true, false, List, [], ◌∷◌, ◌++◌, length, Option, Some}
-use Rattle.std.proofs.Common.{IfSome, Result, Ok, Err, IfOk, IfErr, MatchResult, refl, sym, ◌∙◌, ap, subst, inl, inr}
-use Rattle.std.proofs.Common.{arith}
+-- after each step, and justify each error that the reader returns. The last lemmas are about the result of reading a
+-- system, which is the system or an error.
+use Rattle.std.proofs.Common.{ℕ, List, ◌++◌, Option, Result, MatchResult, arith, ◌≡◌, ◌⊎◌, ◌+◌, ◌<◌, ◌≤◌, true, false}
+use Rattle.std.proofs.Common.{[], ◌∷◌, length, Some, IfSome, Ok, Err, IfOk, IfErr, refl, sym, ◌∙◌, ap, subst, inl, inr}
+use Rattle.std.proofs.Common.{None, rules}
+use Rattle.std.specs.Io.KnownBytes.{Consumes, IsAtEnd}
+use Rattle.std.proofs.KnownBytes.{Consumes-trans}
 use Rattle.std.proofs.lemmas.List.{append_assoc, append-nil}
 use Rattle.std.proofs.lemmas.List.Elements.{All-nil}
 use Rattle.std.proofs.lemmas.Slice.Zip.{all_zipped_more}
-use Rattle.std.specs.Io.KnownBytes.{IsAtEnd}
+use Rattle.std.proofs.lemmas.List.Sorted.{length_permutation, Contains-permutation}
 use Rattle.theory.specs.System.{Transition, IsAmong}
+use Rattle.lts.specs.Lts.{Grouped, IsBuilt}
+use Rattle.autfmt.specs.Outcomes.{Takes, Refuses, ReadsTo, AnswersRead}
 use Rattle.autfmt.specs.declared.fault.Fault.{Fault}
 use Rattle.autfmt.specs.declared.fault.Fault.TheVariants.{LineTooLong, MissingEdges, ExtraText, Device, Memory}
 use Rattle.autfmt.specs.declared.held.Held.{Held}
@@ -19,13 +24,21 @@ use Rattle.autfmt.specs.Faults.{LineFault, HeaderFault, EdgeFault, EdgesFault, F
 use Rattle.autfmt.specs.Cutter.{Cutting, HasCut, CutsLine, CutsEnd, BeginsTooLong, IsPart}
 use Rattle.autfmt.specs.Held.{Holds}
 use Rattle.autfmt.specs.Readers.{IsTextFault, HasGoodHeader}
-use Rattle.autfmt.specs.Outcomes.{Refuses}
-use Rattle.autfmt.specs.ReadSoFar.{ReadSoFar, HeldSoFar, ReadsOneMore}
+use Rattle.autfmt.specs.ReadSoFar.{ReadSoFar, HeldSoFar, ReadsOneMore, HoldsText}
 use Rattle.autfmt.specs.Outcomes.Refuses.{no_memory, failed_source, faulty_text}
 use Rattle.autfmt.proofs.FirstFaults.{behind}
 use Rattle.autfmt.proofs.FaultLaws.{edges, Reads-from_lines, no_judged_header, no_judged_fault}
 use Rattle.autfmt.proofs.Holding.{Holds-length}
-use Rattle.autfmt.proofs.HasCut.{HasCut-line, HasCut-too_long, HasCut-end, HasCut-more, HasCut-part}
+use Rattle.autfmt.proofs.Cutting.{HasCut-line, HasCut-too_long, HasCut-end, HasCut-more, HasCut-part}
+
+-- Suppose that two calls read bytes from a source (an object from which an input is read), one call after the other.
+-- Suppose also that a result satisfies the conditions of `Takes` for the list of all bytes that these two calls have
+-- read. Then `Takes` holds for the result and the sequence of the two calls.
+pub takes_more : {T E : Type 0} (Good : List ℕ → T → Type 0) (Bad : List ℕ → E → Type 0) (result : Result T E)
+    (old between new : Option (List ℕ)) (before bytes : List ℕ) → Consumes old between before →
+    Consumes between new bytes →
+    MatchResult result (Good (before ++ bytes)) (Bad (before ++ bytes)) → Takes old new Good Bad result
+takes_more Good Bad result old between new before bytes first next outcome = grind (arith, Consumes-trans)
 
 -- `fresh` is the state of a line splitter (`Cutter`) that has not taken any bytes.
 abbrev pub fresh : Cutting
@@ -237,3 +250,40 @@ HeldSoFar-push H p old at now held_at held before line so_far step bounds given 
 pub count_held : (H : List (List ℕ)) (n : ℕ) (held : Held) (es : List Transition) (found : ℕ) → Holds H n held es →
     found ≡ length held.transitions → length es ≡ found
 count_held H n held es found holds count = sym (Holds-length H n held es holds) ∙ sym count
+
+-- ---- The result of reading a system
+
+-- A source is the object from which the input is read. Suppose that the contract of the source states the whole input.
+-- If the reader returns an error in the contents of the input, then this error is the first error of the input.
+pub told_fault :
+    (bounds : Bounds) (H : List (List ℕ)) (old new : Option (List ℕ)) (failures : ℕ) (result : Result Grouped Fault) →
+    AnswersRead bounds H old new failures result →
+    IfSome old (λ text. IfErr result (λ f. IsTextFault f → FirstFault bounds text f))
+told_fault bounds H None new failures result answer = tt
+told_fault bounds H (Some text) None failures result answer = absurd answer.took
+told_fault bounds H (Some text) (Some more) failures (Ok s) answer = tt
+told_fault bounds H (Some text) (Some more) failures (Err f) answer = step answer.outcome
+  where
+    step : Refuses bounds answer.given (Some more) failures f → IsTextFault f → FirstFault bounds text f
+    step (faulty_text sound is first) kind = subst (λ (t : List ℕ). FirstFault bounds t f) (sym answer.took) first
+    step (failed_source failed e none) kind = absurd (subst IsTextFault e kind)
+    step (no_memory sound e good) kind = absurd (subst IsTextFault e kind)
+
+-- Assume that the bytes `got` were read and stored as triples, and that the system s was built from these triples.
+module _ (bounds : Bounds) (H : List (List ℕ)) (got : List ℕ) (p : Promise) (held : Held) (s : Grouped)
+    (text : HoldsText bounds H got p held) (made : IsBuilt p.first p.states held.labels held.transitions s) where
+  as_many : length s.places ≡ length text.0
+  as_many = length_permutation held.transitions s.places made.grouping.same ∙ Holds-length H p.states held text.0 text.2
+
+  pub reads_built : (rest : Option (List ℕ)) (failures : ℕ) → IsAtEnd rest → failures ≡ 0 →
+      ReadsTo bounds H got rest failures s
+  reads_built rest failures end sound = record {
+    read = search rules;
+    as_many = as_many;
+    within = grind (arith, made.states, text.1.good.states, as_many, text.1.good.transitions);
+    carried = λ k below.
+        let (e, among, number) = text.2.carried k (omega (arith, ap length made.labels)) in
+        (e, Contains-permutation held.transitions s.places e made.grouping.same among, number);
+    at_end = end;
+    sound = sound;
+  }

@@ -12,7 +12,7 @@ use Rattle.autfmt.specs.Ranks.{texts, IsSortedRow}
 use Rattle.autfmt.specs.Stream.{AppendsPrefix}
 use Rattle.autfmt.specs.LabelTexts.{AreWords, from_source, written_lines}
 use Rattle.autfmt.specs.Written.{header_of, Text, GainsText, GainsPrefix}
-use Rattle.autfmt.proofs.ByRank.{written_order_from_ranks}
+use Rattle.autfmt.proofs.Ranks.{written_order_from_ranks}
 use Rattle.autfmt.proofs.Progress.{goes_on, waits_too, beginning_put, longer, everything_put, lines-append}
 use Rattle.autfmt.proofs.Rows.{AreOrdered, one_row_more, all_ordered, rest_ordered, ranked, triple_cmp}
 

@@ -1,8 +1,7 @@
 -- The module `usual` is a fast path that reads transitions in their most common written forms. If the module reads a
 -- transition at the beginning of some bytes, then the first line of these bytes denotes this transition.
-use Rattle.std.proofs.Common.{◌≡◌, ◌≢◌, ℕ, ◌+◌, ◌^◌, ◌<◌, ◌≤◌, not, eqb, List, [], ◌∷◌, ◌++◌, length}
-use Rattle.std.proofs.Common.{get_or, take, drop, map, codes, decimal, Some, refl, sym, ap, ◌∙◌, inl, inr, append_assoc}
-use Rattle.std.proofs.Common.{Bool, arith}
+use Rattle.std.proofs.Common.{◌≡◌, ◌≢◌, ℕ, ◌+◌, ◌^◌, ◌<◌, ◌≤◌, not, eqb, List, [], ◌∷◌, ◌++◌, length, get_or, take}
+use Rattle.std.proofs.Common.{drop, map, codes, decimal, Some, refl, sym, ap, ◌∙◌, inl, inr, append_assoc, Bool, arith}
 use Rattle.std.specs.Char.{is_ascii_digit}
 use Rattle.std.specs.List.{prefix_len}
 use lib.Count.{count_trailing_zeros}
@@ -20,10 +19,7 @@ use Rattle.autfmt.specs.Grammar.{Blanks, quoted}
 use Rattle.autfmt.specs.Reading.{past, plain_at}
 use Rattle.autfmt.specs.Usual.{AreDigitsInFront, BeginsWithNumber, FollowsComma, FollowsEnd, HasMark, BeginsWithLabel}
 use Rattle.autfmt.specs.Usual.{BeginsWithTransition}
-use Rattle.autfmt.proofs.Blanks.{IsBlank}
-use Rattle.autfmt.proofs.Numbers.{digit-range}
-use Rattle.autfmt.proofs.Labels.{quoted-append}
-use Rattle.autfmt.proofs.PlainLabels.{plain_at-takes}
+use Rattle.autfmt.proofs.Tokens.{IsBlank, digit-range, quoted-append, plain_at-takes}
 use Rattle.autfmt.proofs.Lines.{past-takes}
 use Rattle.autfmt.proofs.ReadBack.{none, a_space, spelled_line, spelled_line-short, spaced_line}
 

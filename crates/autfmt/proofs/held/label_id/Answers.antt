@@ -1,7 +1,7 @@
 use Rattle.std.proofs.Common.{rules, ◌≡◌, sym, subst}
 use Rattle.theory.specs.System.{internal, hidden_label}
 use Rattle.lts.specs.Labels.{IsLabelId, Interns}
-use Rattle.autfmt.proofs.Hiding.{hidden_label-hidden, hidden_label-shown, contains_numbered}
+use Rattle.autfmt.proofs.Holding.{hidden_label-hidden, hidden_label-shown, contains_numbered}
 use Rattle.autfmt.proofs.held.label_id.Goals as goal
 use Rattle.autfmt.proofs.held.label_id.Goals.{In-Some, In_default}
 

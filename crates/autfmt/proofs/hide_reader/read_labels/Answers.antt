@@ -1,11 +1,9 @@
-use Rattle.std.proofs.Common.{◌≡◌, ◌+◌, ℕ, List, [], ◌∷◌, ◌++◌, length, Ok, ◌∙◌, ap, refl}
-use Rattle.std.proofs.Common.{arith}
+use Rattle.std.proofs.Common.{◌≡◌, ◌+◌, ℕ, List, [], ◌∷◌, ◌++◌, length, Ok, ◌∙◌, ap, refl, arith}
 use Rattle.std.proofs.lemmas.List.{length_push}
 use Rattle.std.proofs.lemmas.Result.{err_from_is_err_and}
 use Rattle.std.proofs.KnownBytes.{Consumes-nil, Consumes-trans}
 use Rattle.autfmt.proofs.HideSteps.{HideReadSoFar-new, hide_ends, hide_behind, hide_end_failed}
-use Rattle.autfmt.proofs.ReaderSteps.{fresh_open}
-use Rattle.autfmt.proofs.Taking.{takes_more}
+use Rattle.autfmt.proofs.ReaderSteps.{fresh_open, takes_more}
 use Rattle.autfmt.proofs.hide_reader.read_labels.Goals as goal
 
 pub loop-found-init : goal.loop-found-init

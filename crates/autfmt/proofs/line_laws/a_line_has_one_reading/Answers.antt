@@ -1,4 +1,4 @@
-use Rattle.autfmt.proofs.Decisions.{one_header, one_transition, one_hide_line, not_both}
+use Rattle.autfmt.proofs.Lines.{one_header, one_transition, one_hide_line, not_both}
 use Rattle.autfmt.proofs.line_laws.a_line_has_one_reading.Goals as goal
 
 pub returns-clause-header : goal.returns-clause-header

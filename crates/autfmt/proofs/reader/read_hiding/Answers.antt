@@ -1,4 +1,4 @@
-use Rattle.autfmt.proofs.ReaderAnswers.{told_fault}
+use Rattle.autfmt.proofs.ReaderSteps.{told_fault}
 use Rattle.autfmt.proofs.reader.read_hiding.Goals as goal
 
 pub returns-clause-fault : goal.returns-clause-fault

@@ -1,5 +1,5 @@
 use Rattle.std.proofs.Common.{rules}
-use Rattle.autfmt.proofs.ReaderAnswers.{reads_built}
+use Rattle.autfmt.proofs.ReaderSteps.{reads_built}
 use Rattle.autfmt.proofs.reader.read_system.Goals as goal
 
 pub returns : goal.returns

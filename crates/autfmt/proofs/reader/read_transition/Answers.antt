@@ -3,7 +3,7 @@ use Rattle.std.proofs.lemmas.Result.{err_from_is_err_and}
 use Rattle.theory.specs.System.{Transition, IsAmong}
 use Rattle.autfmt.specs.Held.{Holds}
 use Rattle.autfmt.proofs.Holding.{Holds-add}
-use Rattle.autfmt.proofs.HasCut.{HasCut-line}
+use Rattle.autfmt.proofs.Cutting.{HasCut-line}
 use Rattle.autfmt.proofs.ReaderSteps.{transition_too_long, transition_missing, transition_failed, transition_good}
 use Rattle.autfmt.proofs.ReaderSteps.{transition_faulty, transition_refused, count_held}
 use Rattle.autfmt.proofs.reader.read_transition.Given.{Over}

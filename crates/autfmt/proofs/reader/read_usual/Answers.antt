@@ -1,7 +1,7 @@
 use Rattle.std.proofs.Common.{rules, [], ◌∷◌, IsTrue, refl, ◌∙◌, append-nil}
 use Rattle.theory.specs.System.{Transition, IsAmong}
 use Rattle.autfmt.proofs.Holding.{Holds-add}
-use Rattle.autfmt.proofs.HasCut.{Divides-line}
+use Rattle.autfmt.proofs.Cutting.{Divides-line}
 use Rattle.autfmt.proofs.Lines.{TransitionLine-one}
 use Rattle.autfmt.proofs.ReaderSteps.{transition_good}
 use Rattle.autfmt.proofs.reader.read_usual.Goals as goal

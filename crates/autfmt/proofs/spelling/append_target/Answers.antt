@@ -1,7 +1,7 @@
 use Rattle.std.proofs.Common.{rules, arith}
 use Rattle.std.proofs.lemmas.Grind.{common_steps}
 use Rattle.std.proofs.lemmas.Fmt.{length-decimal-le}
-use Rattle.autfmt.proofs.Spelled.{target_put}
+use Rattle.autfmt.proofs.Progress.{target_put}
 use Rattle.autfmt.proofs.spelling.append_target.Goals as goal
 
 pub write_digits-start-requires : goal.write_digits-start-requires

@@ -1,5 +1,5 @@
 -- Each clause of the contract of `hiding_depends_on_the_labels` is proved by a lemma in `proofs/Hiding`.
-use Rattle.autfmt.proofs.Hiding.{Hide-same, Hide-none}
+use Rattle.autfmt.proofs.Holding.{Hide-same, Hide-none}
 use Rattle.autfmt.proofs.text_laws.hiding_depends_on_the_labels.Goals as goal
 
 pub returns-clause-same : goal.returns-clause-same

@@ -1,6 +1,5 @@
 use Rattle.std.proofs.Common.{rules}
-use Rattle.autfmt.proofs.Lines.{header_at-takes}
-use Rattle.autfmt.proofs.Decisions.{header_reader, none_read, found_from, none_from}
+use Rattle.autfmt.proofs.Lines.{header_at-takes, header_reader, none_read, found_from, none_from}
 use Rattle.autfmt.proofs.token.header_of.Goals as goal
 
 pub returns-clause-found : goal.returns-clause-found

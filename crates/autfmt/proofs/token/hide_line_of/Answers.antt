@@ -1,8 +1,7 @@
 use Rattle.std.proofs.Common.{rules}
 use Rattle.theory.specs.System.{IsLabel}
 use Rattle.autfmt.specs.Reading.{hide_line_at}
-use Rattle.autfmt.proofs.Lines.{hide_line_at-takes, hide_line-label}
-use Rattle.autfmt.proofs.Decisions.{hide_line_reader, none_read, found_from, none_from}
+use Rattle.autfmt.proofs.Lines.{hide_line_at-takes, hide_line-label, hide_line_reader, none_read, found_from, none_from}
 use Rattle.autfmt.proofs.token.hide_line_of.Goals as goal
 
 pub returns-clause-found : goal.returns-clause-found

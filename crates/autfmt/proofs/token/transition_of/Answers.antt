@@ -1,7 +1,7 @@
 use Rattle.std.proofs.Common.{rules, arith}
 use Rattle.std.proofs.lemmas.Grind.{common_steps}
-use Rattle.autfmt.proofs.Lines.{transition_at-takes, transition-label}
-use Rattle.autfmt.proofs.Decisions.{transition_reader, none_read, found_from, none_from}
+use Rattle.autfmt.proofs.Lines.{transition_at-takes, transition-label, transition_reader, none_read, found_from}
+use Rattle.autfmt.proofs.Lines.{none_from}
 use Rattle.autfmt.proofs.token.transition_of.Goals as goal
 
 pub returns-clause-found : goal.returns-clause-found

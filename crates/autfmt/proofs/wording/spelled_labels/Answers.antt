@@ -1,5 +1,5 @@
 use Rattle.std.proofs.Common.{rules, arith}
-use Rattle.autfmt.proofs.Spelled.{one_spelled_more}
+use Rattle.autfmt.proofs.Progress.{one_spelled_more}
 use Rattle.autfmt.proofs.wording.spelled_labels.Goals as goal
 
 pub loop-text-preserved : goal.loop-text-preserved

@@ -1,4 +1,4 @@
-use Rattle.autfmt.proofs.Order.{text_is_one}
+use Rattle.autfmt.proofs.Rows.{text_is_one}
 use Rattle.autfmt.proofs.write_laws.text_is_one.Goals as goal
 
 pub returns : goal.returns
