@@ -6,7 +6,6 @@ use Rattle.theory.specs.Blocks.{Turns}
 use Rattle.lts.specs.Meter.{Costs}
 use Rattle.lts.specs.Lts.{system_of}
 use Rattle.refine_core.specs.Rounds.{AreAllActive, IsNextRound, AreRounds}
-use Rattle.partition.specs.Blocks.{RoundBlocks}
 use Rattle.partition.specs.Renumberings.{WereHalved}
 use Rattle.partition.proofs.CallerLemmas.{one_block}
 use Rattle.refine_core.proofs.refinement.refine_blocks.Goals as goal
@@ -46,7 +45,8 @@ next_round-requires-clause-ready_for_round g c =
       | inl one ↦ ⊎_map (λ one. one) inl (c.in_ok-before.ensures.leaves.are s one)
       | inr other ↦ inr other
     ] in
-    rw c.in_ok-before.ensures.same (record { old = a.old; is = search (rules, a.is, all); later = a.later; none = a.none })
+    let same = c.in_ok-before.ensures.same in
+    rw same (record { old = a.old; is = search (rules, a.is, all); later = a.later; none = a.none })
 
 pub next_round-requires-clause-room : goal.next_round-requires-clause-room
 next_round-requires-clause-room g c =
@@ -64,13 +64,12 @@ returns-in_err-next-clause-err g c =
 -- The following lemmas assume that a round was made. Before this round, some states in singleton blocks (blocks with
 -- one state) may have been dropped from the active states, which are the states that the round processes.
 module _ (g : Over) (c : After-count-more g) where
-  abbrev old : RoundBlocks
-  old = c.loop-before.round.blocks
-
-  next : IsNextRound g.S.Signing.relation c.args.l.now old.block_ids old.count c.in_ok-next.next
+  next : let old = c.loop-before.round.blocks in
+      IsNextRound g.S.Signing.relation c.args.l.now old.block_ids old.count c.in_ok-next.next
   next = rw c.in_ok-before.ensures.same at c.in_ok-next.ensures.next
 
-  were : let of = c.in_ok-next.next.blocks.block_ids in let past = old.block_ids ∷ c.loop-before.invariant.made.past in
+  were : let past = c.loop-before.round.blocks.block_ids ∷ c.loop-before.invariant.made.past in
+      let of = c.in_ok-next.next.blocks.block_ids in
       AreRounds g.S.Signing.relation (system_of c.args.l.now) of past × WereHalved of past
   were = let made = c.loop-before.invariant.made in ((next.split, made.were.0), (next.halves, made.were.1))
 
@@ -92,7 +91,7 @@ returns-then-more-count-clause-bisimilar g c =
     let d = (goal.at.returns-then-more-count-clause-bisimilar g c).After-count-more in
     rw c.into_blocks.ensures
     (c.final_blocks_are_bisimilarity.ensures _ _ _ _ c.states.ensures.lts.system (turns g d c.if-more-count.true)
-    (slice_index (old g d).block_ids, c.loop-before.invariant.made.underway.after, (next g d).split))
+    (slice_index c.loop-before.round.blocks.block_ids, c.loop-before.invariant.made.underway.after, (next g d).split))
 
 pub returns-then-more-count-clause-few : goal.returns-then-more-count-clause-few
 returns-then-more-count-clause-few g c =
