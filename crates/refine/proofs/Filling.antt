@@ -1,9 +1,8 @@
 -- This file proves a lemma about the blocks that result when blocks are split by the signatures of all states.
-use Rattle.std.proofs.Common.{rules, ◌≡◌, ◌↔◌, ℕ, ◌<◌, List, length, map, slice_index, subst₂}
+use Rattle.std.proofs.Common.{◌≡◌, ◌↔◌, ℕ, ◌<◌, List, length, map, slice_index, ap, arith}
 use Rattle.std.proofs.lemmas.List.{get_or-map, length-map}
 use Rattle.signatures.specs.Lists.{list_at, AreLists, AreIds}
 use Rattle.partition.specs.Splitting.{Splits}
-use Rattle.refine_core.proofs.CallerLemmas.{Splits-signatures}
 
 -- Suppose that the old blocks are split by the IDs of the signatures of their states, and that the resulting blocks
 -- then get new IDs. Then two states share a resulting block if and only if they shared an old block and have equal
@@ -17,4 +16,8 @@ pub split_alike : (interned signatures : List (List (ℕ × ℕ))) (signature_id
     → (s t : ℕ) → s < length p → t < length p → (slice_index q s ≡ slice_index q t)
     ↔ ((slice_index p s ≡ slice_index p t) × (list_at signatures s ≡ list_at signatures t))
 split_alike interned signed signature_ids ns p old new q count more view are each given size is split alike s t h k =
-    search (rules, length-map, subst₂, Splits-signatures, get_or-map)
+    let same = rw given at split in
+    let equal = are.different (slice_index signature_ids s) (slice_index signature_ids t) in
+    let sizes = ap length view in
+    rw (← view, ← is)
+    (grind (arith, length-map, get_or-map, alike s t, same.alike s t, equal, each s 0, each t 0, same.states, is, sizes))

@@ -5,7 +5,7 @@
 -- split signatures has the same result as a split by the signatures. For branching bisimilarity, signatures are cached
 -- from round to round. The last proofs show that, if the cached signatures are correct before a round, then they are
 -- also correct after the round.
-use Rattle.std.proofs.Common.{rules, ◌≡◌, ◌⊎◌, ◌↔◌, ◌∙◌, ℕ, ◌+◌, ◌-◌, ◌<◌, ◌≤◌, List, [], ◌++◌, length, take, map}
+use Rattle.std.proofs.Common.{◌≡◌, ◌⊎◌, ◌↔◌, ◌∙◌, ℕ, ◌+◌, ◌-◌, ◌<◌, ◌≤◌, List, [], ◌++◌, length, take, map}
 use Rattle.std.proofs.Common.{slice_index, Contains, Option, None, Some, subst, sym, ap, refl, inl, inr, arith}
 use Rattle.std.proofs.lemmas.Grind.{common_steps}
 use Rattle.std.proofs.Math.Logic.{⊎_map}
@@ -22,9 +22,9 @@ use Rattle.lts.specs.Labels.{text_of, IsLabelId}
 use Rattle.lts.specs.Lts.{Grouped, Triple, target_of, before, row_of, system_of, IsTriple, IsLts}
 use Rattle.lts.proofs.CallerLemmas.{labels_have_ids, before-mono, before-next, before-le, contains_mapped}
 use Rattle.lts.proofs.CallerLemmas.{mapped_contains, row_of-contains, row_steps}
-use Rattle.signatures.specs.Lists.{AreLists, AreIds, list_at, pair_cmp}
+use Rattle.signatures.specs.Lists.{AreLists, list_at, pair_cmp}
 use Rattle.signatures.proofs.CallerLemmas.{ascending_none, ascending_unique}
-use Rattle.partition.specs.Splitting.{IsSingleton, Splits}
+use Rattle.partition.specs.Splitting.{IsSingleton}
 use Rattle.partition.specs.Blocks.{IsMember, InactiveHaveNone}
 use Rattle.inert.specs.Signed.{CachesBeside, SignsActive, HasPair, IsListOf, IsSignature, pair_under}
 use Rattle.refine_core.specs.Rounds.{Signed, HaveSignatures, list_of, Was, IsAsBefore, Follows, HasNewBlock}
@@ -37,15 +37,6 @@ pub written_back : (of active signature_ids rest : List ℕ) (n : ℕ) → lengt
     → length signature_ids ≡ length of → InactiveHaveNone active signature_ids
     → (length (take n (signature_ids ++ rest)) ≡ length of) × InactiveHaveNone active (take n (signature_ids ++ rest))
 written_back of active signature_ids rest n all states none = rw (take_at signature_ids rest n all) (states, none)
-
--- Different interned signatures have different IDs. So a split that compares the signature IDs of states has the same
--- result as a split that compares the signatures of states.
-pub Splits-signatures : (signatures : List (List (ℕ × ℕ))) (signature_ids old : List ℕ) (count : ℕ) (new : List ℕ)
-    (more : ℕ)
-    → AreLists signatures → AreIds signatures signature_ids → length old ≡ length signature_ids
-    → Splits old count (slice_index signature_ids) new more
-    → Splits old count (list_of signatures signature_ids) new more
-Splits-signatures signatures signature_ids old count new more are each size splits = search rules
 
 -- Suppose that the blocks result from splitting the blocks of the last round (`Follows`). For branching bisimilarity,
 -- suppose also that the signatures have not been discarded since the last round. If the signature of the state s

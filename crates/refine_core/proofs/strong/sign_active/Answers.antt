@@ -9,25 +9,25 @@ use Rattle.refine_core.proofs.Signatures.{row_within}
 use Rattle.refine_core.proofs.strong.sign_active.Invariants.{HasGot}
 use Rattle.refine_core.proofs.strong.sign_active.Goals as goal
 
--- The active states are the states that the round processes, and P is a condition on a state and a signature. Suppose
--- that `signature_ids` contains the ID of an interned signature for each of the first i active states, and that P holds
--- for each of these states and its signature (`HasGot`). Suppose also that the ID k is then stored for the next active
--- state, and that P holds for this state and the signature with the ID k. Then `signature_ids` contains the ID of an
--- interned signature for each of the first i + 1 active states, and P holds for each of these states and its signature.
-signed_more : {P : ℕ → List (ℕ × ℕ) → Type 0} {signatures signatures' : List (List (ℕ × ℕ))}
-    {signature_ids active : List ℕ} {states i k : ℕ} → Grow signatures signatures' → AreActive states active
-    → length signature_ids ≡ states → i < length active
-    → ((j : ℕ) → j < i → HasGot P signatures signature_ids (slice_index active j)) → k < length signatures'
-    → P (slice_index active i) (list_at signatures' k)
-    → (j : ℕ) → j < i + 1 → HasGot P signatures' (set signature_ids (slice_index active i) k) (slice_index active j)
-signed_more grow rises size more before within this = search rules
+-- The active states are the states that the round processes. In the following lemmas, the list `signature_ids` contains
+-- a signature ID for each state, and the ID k is then stored for the active state at the index i.
+module _ (signature_ids active : List ℕ) (i k : ℕ) (more : i < length active) where
+  -- P is a condition on a state and a signature. Suppose that `signature_ids` contains the ID of an interned signature
+  -- for each of the first i active states, and that P holds for each of these states and its signature (`HasGot`).
+  -- Suppose also that P holds for the next active state and the signature with the ID k. Then the list that results
+  -- contains the ID of an interned signature for each of the first i + 1 active states, and P holds for each of these
+  -- states and its signature.
+  signed_more : {P : ℕ → List (ℕ × ℕ) → Type 0} {signatures signatures' : List (List (ℕ × ℕ))} {states : ℕ}
+      → Grow signatures signatures' → AreActive states active → length signature_ids ≡ states
+      → ((j : ℕ) → j < i → HasGot P signatures signature_ids (slice_index active j)) → k < length signatures'
+      → P (slice_index active i) (list_at signatures' k) → (j : ℕ) → j < i + 1
+      → HasGot P signatures' (set signature_ids (slice_index active i) k) (slice_index active j)
+  signed_more grow rises size before within this = search rules
 
--- The active states are the states that the round processes. Suppose that every state that is not active has the
--- signature ID 0, and that the signature ID of an active state is then changed. Then every state that is not active
--- still has the signature ID 0.
-inactive_none_more : (signature_ids active : List ℕ) (i k : ℕ) → i < length active
-    → InactiveHaveNone active signature_ids → InactiveHaveNone active (set signature_ids (slice_index active i) k)
-inactive_none_more signature_ids active i k more none t h = grind (arith, common_steps, get_or-set_other, length-set)
+  -- If every state that is not active has the signature ID 0, then this is still true after k is stored.
+  none_more : InactiveHaveNone active signature_ids
+      → InactiveHaveNone active (set signature_ids (slice_index active i) k)
+  none_more none t h = grind (arith, common_steps, get_or-set_other, length-set)
 
 pub intern_signature-requires-clause-room : goal.intern_signature-requires-clause-room
 intern_signature-requires-clause-room g c =
@@ -41,11 +41,12 @@ loop-s-preserved g c =
     let inv = c.loop-s.invariant in
     let done = c.in_ok-signature_ids.ensures in
     let rises = c.requires.signature_ids.ascending in
+    let ids = c.loop-s.signature_ids.items in
     record {
-      put = signed_more c.intern_signature.ensures.grow rises inv.states c.loop-s-test.true inv.put done.within
-          done.put;
+      put = signed_more ids c.args.active.now i _ c.loop-s-test.true c.intern_signature.ensures.grow rises inv.states
+          inv.put done.within done.put;
       states = length-set _ _ _ ∙ inv.states;
-      none = inactive_none_more c.loop-s.signature_ids.items c.args.active.now i _ c.loop-s-test.true inv.none;
+      none = none_more ids c.args.active.now i _ c.loop-s-test.true inv.none;
       some = omega (arith, inv.some, c.intern_signature.ensures.grow.longer);
       visits = (
         slice_index c.args.active.now i + 1,
