@@ -1,16 +1,12 @@
 -- The active states, which are the states that a round processes, are stored in ascending order. States in singleton
 -- blocks (blocks with one state) may be dropped from the active states.
-use Rattle.std.proofs.Common.{rules, ◌∙◌, ℕ, ◌+◌, ◌<◌, List, [], ◌∷◌, ◌++◌, length, slice_index, Contains, arith}
-use Rattle.std.proofs.Common.{◌≡◌, ◌⊎◌, set}
-use Rattle.std.proofs.lemmas.Grind.{common_steps}
-use Rattle.std.specs.List.Sorted.{IsStrictlyIncreasing}
-use Rattle.std.proofs.lemmas.List.Kept.{AllPairs-from_increasing}
-use Rattle.std.proofs.lemmas.Map.Keys.{sorted_from_strictly_increasing}
-use Rattle.std.proofs.lemmas.Map.Views.{length-le_from_below}
+use Rattle.std.proofs.Common.{rules, ◌∙◌, ℕ, ◌+◌, ◌<◌, List, [], ◌∷◌, ◌++◌, length, slice_index, Contains, arith, ◌≡◌}
+use Rattle.std.proofs.Common.{◌⊎◌, set}
+use Rattle.std.proofs.lemmas.{Grind.common_steps, List.Kept.AllPairs-from_increasing}
+use Rattle.std.proofs.lemmas.{Map.Keys.sorted_from_strictly_increasing, Map.Views.length-le_from_below, Bool.cases_lt}
 use Rattle.std.proofs.lemmas.List.{get_or_default, get_or-set_same, get_or-set_other}
-use Rattle.partition.specs.Blocks.{AreActive, IsMember, InactiveHaveNone}
-use Rattle.partition.specs.Splitting.{IsSingleton}
-use Rattle.std.proofs.lemmas.Bool.{cases_lt}
+use Rattle.std.specs.List.Sorted.{IsStrictlyIncreasing}
+use Rattle.partition.specs.{Blocks.AreActive, Blocks.IsMember, Blocks.InactiveHaveNone, Splitting.IsSingleton}
 
 -- Suppose that the list `active` is in strictly ascending order, and that all of its elements are less than s
 -- (`AreActive`). If s is appended to `active`, the longer list is in strictly ascending order, and all of its elements

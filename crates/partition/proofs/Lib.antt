@@ -1,5 +1,4 @@
 pub mod CallerLemmas
-pub mod Renumbering
 pub mod ActiveStates
 pub mod Tallying
 pub mod Cutting
