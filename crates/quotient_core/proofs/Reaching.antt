@@ -5,23 +5,18 @@
 -- transitions that the search may still read.
 use Rattle.std.proofs.Common.{rules, ◌≡◌, ℕ, ◌+◌, ◌≤◌, Bool, cond, List, length, ◌≢◌, sum_by, ap, ◌⊎◌, ◌<◌, true, false}
 use Rattle.std.proofs.Common.{not, ◌&&◌, eqb, ltb, [], ◌∷◌, ◌++◌, get_or, set, replicate, Contains, refl, inl, inr}
-use Rattle.std.proofs.Common.{arith}
+use Rattle.std.proofs.Common.{arith, get_or-set_same, get_or-set_other, length-set, append-nil}
+use Rattle.std.proofs.lemmas.{List.get_or_default, List.length-replicate, List.get_or_past, Grind.common_steps}
+use Rattle.std.proofs.lemmas.{Bool.Decides.nat_tests, Bool.cases_eq, Bool.cases_Bool, Bool.both_ways}
 use Rattle.std.proofs.lemmas.List.Sums.{length-filter, count_by-le-length, sum_by_push, sum_by-cons}
+use Rattle.std.proofs.lemmas.List.Elements.{Contains-append_cases, Contains-append_left, Contains-append_right}
 use Rattle.lts.proofs.CallerLemmas.{length-filter-sum}
 use Rattle.lts.specs.Lts.{Triple, source_of, row_of, Grouped, system_of}
 use Rattle.lts.specs.Meter.{Counts, HasRoomFor, Costs}
-use Rattle.quotient_core.specs.Triples.{rows_of}
-use Rattle.std.proofs.lemmas.List.{get_or_default, get_or-set_same, get_or-set_other, length-replicate, get_or_past}
-use Rattle.std.proofs.lemmas.List.{length-set, append-nil}
-use Rattle.std.proofs.lemmas.Grind.{common_steps}
-use Rattle.std.proofs.lemmas.Bool.Decides.{nat_tests}
-use Rattle.std.proofs.lemmas.Bool.{cases_eq, cases_Bool, both_ways}
-use Rattle.std.proofs.lemmas.List.Elements.{Contains-append_cases, Contains-append_left, Contains-append_right}
+use Rattle.quotient_core.specs.{Triples.rows_of, Numbers.IsMarked, declared.search.Search.Search}
+use Rattle.quotient_core.specs.Search.{MarksState, Searches, ReadsOnce, is_ahead, places_ahead}
 use Rattle.theory.specs.System.{Step, Reachable}
 use Rattle.theory.proofs.CallerLemmas.{contains_here, contains_there, contains_cases, contains_none}
-use Rattle.quotient_core.specs.Numbers.{IsMarked}
-use Rattle.quotient_core.specs.Search.{MarksState, Searches, ReadsOnce, is_ahead, places_ahead}
-use Rattle.quotient_core.specs.declared.search.Search.{Search}
 
 -- Suppose that one call makes at most `first` visits (reads of transitions that the meter counts), and that the next
 -- call makes at most `second` visits. Then the two calls together make at most `first + second` visits.

@@ -6,35 +6,23 @@
 -- transitions of a class.
 use Rattle.std.proofs.Common.{◌-◌, get_or, ◌≡◌, ◌≢◌, ◌⊎◌, ◌↔◌, ℕ, ◌+◌, ◌<◌, ◌≤◌, Bool, false, not, ◌&&◌, IsTrue, eqb}
 use Rattle.std.proofs.Common.{List, [], ◌++◌, length, slice_index, Contains, IsPermutation, ap, subst, inl, inr, arith}
-use Rattle.std.proofs.Common.{ltb, map, rules, nat_eq, cond}
-use Rattle.std.specs.List.{AllPairs}
-use Rattle.std.proofs.lemmas.Cmp.{on_total, then_total, nat_cmp_total}
-use Rattle.std.proofs.lemmas.List.Filters.{dedup_is}
+use Rattle.std.proofs.Common.{ltb, map, rules, nat_eq, cond, AllPairs, IsSorted, Ordering, nat_cmp, length-append}
+use Rattle.std.proofs.lemmas.{Cmp.on_total, Cmp.then_total, Cmp.nat_cmp_total, List.Filters.dedup_is}
+use Rattle.std.proofs.lemmas.{Map.Keys.IsDistinct-from_sorted, Map.Made.AllPairs-from_IsDistinct}
+use Rattle.std.proofs.lemmas.{Bool.Decides.nat_tests, List.length-map, Grind.elements, Bool.not-true}
+use Rattle.std.proofs.lemmas.{Bool.not_from_false, List.Sums.length-filter, List.Sums.count_by-le-length}
 use Rattle.std.proofs.lemmas.List.Kept.{IsStrictlySortedBy-dedup, Contains-dedup, Contains-from_dedup}
 use Rattle.std.proofs.lemmas.List.Sorted.{Contains-permutation, IsPermutation-sym}
-use Rattle.std.proofs.lemmas.Map.Keys.{IsDistinct-from_sorted}
-use Rattle.std.proofs.lemmas.Map.Made.{AllPairs-from_IsDistinct}
-use Rattle.std.specs.Cmp.{IsTotalOrder}
-use Rattle.std.specs.List.Sorted.{IsSorted}
-use Rattle.std.specs.declared.cmp.Ordering.{Ordering}
-use Rattle.std.specs.Ordering.{nat_cmp, ordering_then}
-use Rattle.std.specs.List.Retain.{IsFiltered, DiffersFromLast}
-use Rattle.std.proofs.lemmas.Bool.Decides.{nat_tests}
-use Rattle.std.proofs.lemmas.List.{length-append, length-map}
 use Rattle.std.proofs.lemmas.List.Elements.{Contains-get_or, Contains-append_cases, Contains-append_left}
 use Rattle.std.proofs.lemmas.List.Elements.{Contains-append_right}
-use Rattle.lts.specs.Lts.{Triple, Grouped, source_of, row_of}
-use Rattle.lts.specs.Meter.{Counts, Costs}
+use Rattle.std.specs.{Cmp.IsTotalOrder, Ordering.ordering_then, List.Retain.IsFiltered, List.Retain.DiffersFromLast}
+use Rattle.lts.specs.{Lts.Triple, Lts.Grouped, Lts.source_of, Lts.row_of, Meter.Counts, Meter.Costs}
 use Rattle.partition.specs.Blocks.{AreStatesOf}
-use Rattle.quotient_core.specs.Numbers.{AreNumbered}
-use Rattle.quotient_core.specs.declared.numbering.Numbering.{Numbering}
+use Rattle.quotient_core.specs.{Numbers.AreNumbered, declared.numbering.Numbering.Numbering}
 use Rattle.quotient_core.specs.Triples.{number_of, shown_by, is_reached, is_member, ShowEachOther, rows_of, HasShown}
 use Rattle.quotient_core.specs.Triples.{between_numbers, is_left_out}
-use Rattle.std.proofs.lemmas.Grind.{elements}
 use Rattle.quotient_core.proofs.Reaching.{marked_below, visits_then, Parts, rows_part, rows_few}
 use Rattle.lts.proofs.CallerLemmas.{contains_mapped, mapped_contains, contains_passing, passing_contains}
-use Rattle.std.proofs.lemmas.Bool.{not-true, not_from_false}
-use Rattle.std.proofs.lemmas.List.Sums.{length-filter, count_by-le-length}
 
 -- `triple_cmp` compares two triples (source, label ID, target): first by source, then by label ID, then by target.
 abbrev triple_cmp : Triple → Triple → Ordering

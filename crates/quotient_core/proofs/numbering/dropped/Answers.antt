@@ -1,12 +1,8 @@
 use Rattle.std.proofs.Common.{rules, ◌≡◌, ◌↔◌, ℕ, ◌<◌, true, List, Contains, Option, None, Some, length, MatchOption}
 use Rattle.std.proofs.Common.{[], arith}
-use Rattle.std.proofs.lemmas.Bool.{eq-eqb, cases_lt}
-use Rattle.std.proofs.lemmas.List.{get_or_default, get_or_past}
-use Rattle.theory.specs.System.{internal}
-use Rattle.theory.specs.declared.relation.Relation.TheVariants.{Branching}
-use Rattle.theory.specs.Quotient.{IsDropped}
-use Rattle.lts.specs.Labels.{text_of, IsTable, IsLabelId}
-use Rattle.lts.specs.Lts.{Triple, transition_of}
+use Rattle.std.proofs.lemmas.{Bool.eq-eqb, Bool.cases_lt, List.get_or_default, List.get_or_past}
+use Rattle.theory.specs.{System.internal, declared.relation.Relation.TheVariants.Branching, Quotient.IsDropped}
+use Rattle.lts.specs.{Labels.text_of, Labels.IsTable, Labels.IsLabelId, Lts.Triple, Lts.transition_of}
 use Rattle.quotient_core.specs.Triples.{is_left_out}
 use Rattle.quotient_core.proofs.numbering.dropped.Goals as goal
 

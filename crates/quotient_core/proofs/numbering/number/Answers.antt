@@ -1,15 +1,13 @@
-use Rattle.std.proofs.Common.{rules, ◌≡◌, ◌∙◌, ℕ, ◌<◌, ◌↔◌, false, IsTrue, [], ◌∷◌, slice_index, set, replicate}
-use Rattle.std.proofs.Common.{sym, subst, ap, refl, arith}
+use Rattle.std.proofs.Common.{rules, ◌≡◌, ◌∙◌, ℕ, ◌<◌, ◌↔◌, false, IsTrue, [], ◌∷◌, slice_index, set, replicate, sym}
+use Rattle.std.proofs.Common.{subst, ap, refl, arith}
 use Rattle.std.proofs.lemmas.List.{get_or_read}
 use Rattle.theory.specs.System.{Reachable}
 use Rattle.theory.proofs.CallerLemmas.{reachable_below, place_few, leaders_counted, leaders_few}
 use Rattle.lts.specs.Lts.{system_of}
 use Rattle.quotient_core.specs.declared.numbering.TheConstants.{NONE}
-use Rattle.quotient_core.proofs.Reaching.{marked_below}
-use Rattle.quotient_core.proofs.Classes.{Taken-start, Taken-adds, Taken-number, Taken-class}
-use Rattle.quotient_core.proofs.numbering.number.Given.{Over}
+use Rattle.quotient_core.proofs.{Reaching.marked_below, numbering.number.Given.Over, numbering.number.Goals.In_ok-vec-2}
+use Rattle.quotient_core.proofs.Quotients.{Taken-start, Taken-adds, Taken-number, Taken-class}
 use Rattle.quotient_core.proofs.numbering.number.Goals as goal
-use Rattle.quotient_core.proofs.numbering.number.Goals.{In_ok-vec-2}
 
 pub bounds-block_ids-first : goal.bounds-block_ids-first
 bounds-block_ids-first g c = let l = c.args.l.now in

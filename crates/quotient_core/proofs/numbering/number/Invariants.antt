@@ -1,6 +1,6 @@
 use Rattle.std.proofs.Common.{slice_index}
 use Rattle.lts.specs.Lts.{system_of}
-use Rattle.quotient_core.proofs.Classes.{Taken}
+use Rattle.quotient_core.proofs.Quotients.{Taken}
 use Rattle.quotient_core.proofs.numbering.number.Given as goal
 
 abbrev pub invariant-loop-s : goal.invariant-loop-s

@@ -1,11 +1,9 @@
 use Rattle.std.proofs.Common.{ℕ, false, get_or, rules, ◌≡◌, ◌≤◌, length, arith}
-use Rattle.std.proofs.lemmas.List.Sorted.{length_permutation}
-use Rattle.std.proofs.lemmas.Result.{IfOk-weaker}
+use Rattle.std.proofs.lemmas.{List.Sorted.length_permutation, Result.IfOk-weaker}
+use Rattle.quotient_core.proofs.{Reaching.rows_few, quotient.quotient_of.Given.Over}
 use Rattle.quotient_core.proofs.Quotients.{quotient_in_range, built, show_each_other}
-use Rattle.quotient_core.proofs.Reaching.{rows_few}
-use Rattle.quotient_core.proofs.quotient.quotient_of.Given.{Over}
-use Rattle.quotient_core.proofs.quotient.quotient_of.Goals as goal
 use Rattle.quotient_core.proofs.quotient.quotient_of.Goals.{In_ok-shown, After-len}
+use Rattle.quotient_core.proofs.quotient.quotient_of.Goals as goal
 
 pub shown_transitions-requires-clause-whole : goal.shown_transitions-requires-clause-whole
 shown_transitions-requires-clause-whole g c = show_each_other c.in_ok-numbering.ensures c.invariants.ensures

@@ -1,13 +1,11 @@
 use Rattle.std.proofs.Common.{length, refl, ◌≡◌, ◌∙◌, ◌+◌, ◌-◌, ◌++◌, ◌∷◌, [], take, arith, cond, not, map, ap, List}
 use Rattle.std.proofs.Common.{rules, filter}
-use Rattle.std.proofs.lemmas.Bool.Decides.{nat_tests}
+use Rattle.std.proofs.lemmas.{Bool.Decides.nat_tests, List.Elements.filter-append}
 use Rattle.std.proofs.lemmas.List.{length-append, take_all, append-nil, append_assoc, map-append}
 use Rattle.quotient_core.specs.Triples.{between_numbers, is_left_out, shown_by}
 use Rattle.lts.specs.Lts.{Triple, row_of}
-use Rattle.std.proofs.lemmas.List.Elements.{filter-append}
-use Rattle.quotient_core.proofs.triples.read_row.Given.{Over}
+use Rattle.quotient_core.proofs.{triples.read_row.Given.Over, triples.read_row.Goals.After-leaves_out}
 use Rattle.quotient_core.proofs.triples.read_row.Goals as goal
-use Rattle.quotient_core.proofs.triples.read_row.Goals.{After-leaves_out}
 
 -- The place of a transition is its index in the list of all transitions. Let xs be the list of the quotient transitions
 -- (transitions between quotient states) that come from the transitions of the state s at places less than k. Let ys be

@@ -1,6 +1,5 @@
 use Rattle.std.proofs.Common.{◌≡◌, ◌-◌, ◌++◌, filter, map, not, take}
-use Rattle.lts.specs.Meter.{Costs}
-use Rattle.lts.specs.Lts.{row_of}
+use Rattle.lts.specs.{Meter.Costs, Lts.row_of}
 use Rattle.quotient_core.specs.Triples.{between_numbers, is_left_out}
 use Rattle.quotient_core.proofs.triples.read_row.Given as goal
 

@@ -1,11 +1,10 @@
-use Rattle.std.proofs.lemmas.Bool.Decides.{nat_tests}
 use Rattle.std.proofs.Common.{subst, ℕ, rules, ◌≡◌, ◌∙◌, ◌≤◌, ◌++◌, length, ap, arith}
+use Rattle.std.proofs.lemmas.Bool.Decides.{nat_tests}
 use Rattle.quotient_core.specs.Triples.{HasShown, number_of, is_member, is_reached}
+use Rattle.quotient_core.proofs.{triples.shown_transitions.Given.Over, triples.shown_transitions.Goals.After-edges}
 use Rattle.quotient_core.proofs.Showing.{is_below, below_next, shown_with, shown_tidy, tidied_once, once_next, rows_fit}
 use Rattle.quotient_core.proofs.Reaching.{visits_then, visits_at_most, room_after, rows_few, rows_part}
-use Rattle.quotient_core.proofs.triples.shown_transitions.Given.{Over}
 use Rattle.quotient_core.proofs.triples.shown_transitions.Goals as goal
-use Rattle.quotient_core.proofs.triples.shown_transitions.Goals.{After-edges}
 
 -- A quotient transition is a transition between quotient states. Suppose that the list of the quotient transitions of a
 -- class is sorted, and that its repeated elements are then removed. Then the list still contains exactly the quotient

@@ -1,5 +1,4 @@
-use Rattle.std.proofs.Common.{◌≢◌, length}
-use Rattle.std.specs.List.{AllPairs}
+use Rattle.std.proofs.Common.{◌≢◌, length, AllPairs}
 use Rattle.lts.specs.Meter.{Costs}
 use Rattle.quotient_core.specs.Triples.{HasShown, rows_of}
 use Rattle.quotient_core.proofs.Showing.{is_below}

@@ -1,15 +1,13 @@
-use Rattle.quotient_core.proofs.search.Search.mark_targets.Goals as goal
-use Rattle.lts.specs.Lts.{target_of, place_at, system_of}
-use Rattle.std.proofs.lemmas.List.{append-nil, length_push}
 use Rattle.std.proofs.Common.{ℕ, List, ◌≡◌, ◌∙◌, ◌<◌, length, sym, subst, arith, rules}
+use Rattle.lts.specs.Lts.{target_of, place_at, system_of}
+use Rattle.std.proofs.lemmas.{List.append-nil, List.length_push, Bool.cases_eq}
 use Rattle.theory.proofs.CallerLemmas.{contains_here, contains_there, contains_cases, reachable_on}
 use Rattle.lts.proofs.CallerLemmas.{step_at, place_step}
-use Rattle.std.proofs.lemmas.Bool.{cases_eq}
 use Rattle.theory.specs.System.{Reachable, Step}
 use Rattle.quotient_core.specs.Numbers.{IsMarked}
+use Rattle.quotient_core.proofs.{search.Search.mark_targets.Given.Over, search.Search.mark_targets.Goals.In_ok-mark}
 use Rattle.quotient_core.proofs.Reaching.{Follows, marked_below, mark_at, Searches-step, places_ahead-marks}
-use Rattle.quotient_core.proofs.search.Search.mark_targets.Given.{Over}
-use Rattle.quotient_core.proofs.search.Search.mark_targets.Goals.{In_ok-mark}
+use Rattle.quotient_core.proofs.search.Search.mark_targets.Goals as goal
 
 pub row-start-requires : goal.row-start-requires
 row-start-requires g c = let held = c.requires.search in

@@ -1,8 +1,6 @@
 use Rattle.std.proofs.Common.{ℕ, ◌+◌, ◌<◌, ◌≡◌, ◌-◌, ◌≤◌, ◌∷◌, length}
-use Rattle.lts.specs.Lts.{place_at, target_of}
-use Rattle.lts.specs.Meter.{Costs}
-use Rattle.quotient_core.specs.Numbers.{IsMarked}
-use Rattle.quotient_core.specs.Search.{Searches, places_ahead}
+use Rattle.lts.specs.{Lts.place_at, Lts.target_of, Meter.Costs}
+use Rattle.quotient_core.specs.{Numbers.IsMarked, Search.Searches, Search.places_ahead}
 use Rattle.quotient_core.proofs.search.Search.mark_targets.Given as goal
 
 abbrev pub invariant-loop-k : goal.invariant-loop-k
