@@ -63,7 +63,7 @@ LineFault-long IsRead j not_bad not_in (wrong x short is e) = absurd (not_in x e
 
 -- If the numbers of a header have no error, then they are within the limits, and the first state is less than the number
 -- of states.
-numbers_right : (bounds : Bounds) (f m n : ℕ) → numbers_fault bounds f m n ≡ None →
+numbers_right : (bounds : Bounds) (f m n : ℕ) → numbers_fault bounds (f, m, n) ≡ None →
     (f < n) × (n ≤ bounds.states) × (m ≤ bounds.transitions)
 numbers_right bounds f m n none = grind arith
 
@@ -95,7 +95,7 @@ same_header bounds line f m n f' m' n' P g g' h =
 pub header_judged : (bounds : Bounds) (line : List ℕ) →
     ((f : ℕ) × (m : ℕ) × (n : ℕ) × GoodHeader bounds line f m n) ⊎ ((fault : Fault) × HeaderFault bounds line fault)
 header_judged bounds line =
-    elim (line_judged (header_reader line) (λ x. numbers_fault bounds x.0 x.1 x.2) 1 BadHeader line) [
+    elim (line_judged (header_reader line) (numbers_fault bounds) 1 BadHeader line) [
       | inr bad ↦ inr bad
       | inl ((f, m, n), short, h, none) ↦
           let (low, few, few') = numbers_right bounds f m n none in
@@ -126,7 +126,7 @@ GoodEdge-no_fault n k line e fault good =
 pub edge_judged :
     (n k : ℕ) (line : List ℕ) → ((e : Transition) × SpellsAmong n line e) ⊎ ((fault : Fault) × EdgeFault n k line fault)
 edge_judged n k line =
-    elim (line_judged (transition_reader line) (λ x. ends_fault n k x.0 x.2) k (BadEdge k) line) [
+    elim (line_judged (transition_reader line) (ends_fault n k) k (BadEdge k) line) [
       | inr bad ↦ inr bad
       | inl ((s, a, t), short, h, none) ↦
           let (low, low') : (s < n) × (t < n) = grind arith in

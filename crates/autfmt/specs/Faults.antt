@@ -24,11 +24,11 @@ pub data LineFault {X : Type 0} (IsRead : X → Type 0) (fault_in : X → Option
   unread : fault ≡ bad → IsShort line → ((x : X) → ¬ IsRead x) → LineFault IsRead fault_in k bad line fault
   wrong : (x : X) → IsShort line → IsRead x → fault_in x ≡ Some fault → LineFault IsRead fault_in k bad line fault
 
--- `numbers_fault bounds f m n` is the error in the numbers of a header, or `None` if these numbers have no error. The
+-- `numbers_fault bounds (f, m, n)` is the error in the numbers of a header, or `None` if these numbers have no error. The
 -- header declares the first state f, m transitions and n states, and `bounds` are the limits on m and n. If the numbers
 -- have several of the errors below, the result is the first of these errors.
-abbrev pub numbers_fault : Bounds → ℕ → ℕ → ℕ → Option Fault
-numbers_fault bounds f m n =
+abbrev pub numbers_fault : Bounds → ℕ × ℕ × ℕ → Option Fault
+numbers_fault bounds (f, m, n) =
     if n == 0 then Some NoStates else
     if nat_le n f then Some FirstState else
     if nat_lt bounds.states n then Some TooManyStates else
@@ -37,21 +37,18 @@ numbers_fault bounds f m n =
 -- `HeaderFault bounds line fault` holds if `line`, which is line 1 of an input, is not a correct header, and `fault` is
 -- the error of this line. The limits `bounds` restrict the numbers that a header may declare.
 abbrev pub HeaderFault : Bounds → List ℕ → Fault → Type 0
-HeaderFault bounds line fault =
-    LineFault {X = ℕ × ℕ × ℕ} (λ x. Header line x.0 x.1 x.2) (λ x. numbers_fault bounds x.0 x.1 x.2) 1 BadHeader line
-    fault
+HeaderFault bounds line = LineFault (λ x. Header line x.0 x.1 x.2) (numbers_fault bounds) 1 BadHeader line
 
--- `ends_fault n k s t` is the error of the transition on line k if its source s or its target t is not a state of a
--- system with n states. The result is `None` if s and t are states of the system, which are the numbers less than n.
-abbrev pub ends_fault : ℕ → ℕ → ℕ → ℕ → Option Fault
-ends_fault n k s t = if nat_le n s then Some (SourceRange k) else if nat_le n t then Some (TargetRange k) else None
+-- `ends_fault n k (s, a, t)` is the error of the transition on line k with the label a if its source s or its target t
+-- is not a state of a system with n states. The result is `None` if s and t are states of the system, which are the
+-- numbers less than n.
+abbrev pub ends_fault : ℕ → ℕ → ℕ × List ℕ × ℕ → Option Fault
+ends_fault n k (s, a, t) = if nat_le n s then Some (SourceRange k) else if nat_le n t then Some (TargetRange k) else None
 
 -- `EdgeFault n k line fault` holds if `line`, which is line k of an input, is not a transition between states of a
 -- system with n states, and `fault` is the error of this line.
 abbrev pub EdgeFault : ℕ → ℕ → List ℕ → Fault → Type 0
-EdgeFault n k line fault =
-    LineFault {X = ℕ × List ℕ × ℕ} (λ x. TransitionLine line x.0 x.1 x.2) (λ x. ends_fault n k x.0 x.2) k (BadEdge k)
-    line fault
+EdgeFault n k line = LineFault (λ x. TransitionLine line x.0 x.1 x.2) (ends_fault n k) k (BadEdge k) line
 
 -- `NextFault most Bad extra found line fault` holds if `fault` is the error of a line that follows `found` other lines.
 -- At most `most` lines are allowed. If the line is allowed, its error is defined by `Bad`: `Bad found line fault`

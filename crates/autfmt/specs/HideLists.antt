@@ -22,7 +22,7 @@ HideReads text H = (lines : List (List ℕ)) × Lines text lines × (length line
 -- `HideFault k line fault` holds if line k of a hide list (the labels to hide) is not a correct line, and `fault` is
 -- the error of this line.
 abbrev pub HideFault : ℕ → List ℕ → Fault → Type 0
-HideFault k line fault = LineFault (HideLine line) (λ a. None) k (BadHide k) line fault
+HideFault k line = LineFault (HideLine line) (λ a. None) k (BadHide k) line
 
 -- `HidesFault found lines fault` holds if `fault` is the first error of a hide list (the labels to hide) in the lines
 -- `lines`, which follow `found` correct lines. Either `fault` is the error of the first incorrect line, or there are

@@ -9,7 +9,7 @@ use Rattle.autfmt.proofs.judge.judge_header.Goals.{In-Some}
 -- Suppose that line 1 is not too long, and that `fault` is the error in the numbers that line 1 declares. Then `fault`
 -- is the error of line 1.
 numbers : (c : In-Some) (bounds : Bounds) (fault : Fault) →
-    numbers_fault bounds c.in-Some.first c.in-Some.transitions c.in-Some.states ≡ Some fault →
+    numbers_fault bounds (c.in-Some.first, c.in-Some.transitions, c.in-Some.states) ≡ Some fault →
     HeaderFault bounds c.args.line.now fault
 numbers c bounds fault = wrong (_, _, _) c.requires c.in-Some.ensures.found
 
