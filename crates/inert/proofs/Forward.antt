@@ -14,13 +14,13 @@ use Rattle.lts.specs.{Lts.system_of, Lts.IsRow, Lts.place_at, Visited.price_betw
 use Rattle.lts.proofs.CallerLemmas.{row_left}
 use Rattle.signatures.specs.Lists.{Grow}
 use Rattle.signatures.proofs.CallerLemmas.{Grow-same}
-use Rattle.inert.specs.Search.{HasVisitStates, Search, item_at, IsInternedItem, BelongsTo, GivesPair, ComponentHasPair}
-use Rattle.inert.specs.Search.{SearchInvariant, Item, Laws, stage_at, IsNotBelow, IsRoot, IsInComponent, Root, OnStack}
-use Rattle.inert.specs.Search.{frame_at, IsFrame, IsBeingSearched, IsToBeRead, AreOpen, AreRoots, AreFrames, AreHandled}
-use Rattle.inert.specs.Search.{AreCacheable, Connects, Unvisited, Frame, IsFollowed, IsHandled}
+use Rattle.inert.specs.Search.{Pair, HasVisitStates, Search, IsInternedItem, BelongsTo, GivesPair}
+use Rattle.inert.specs.Search.{ComponentHasPair, SearchInvariant, Item, Laws, stage_at, IsNotBelow, IsRoot}
+use Rattle.inert.specs.Search.{IsInComponent, Root, OnStack, frame_at, IsFrame, IsBeingSearched, IsToBeRead, AreOpen}
+use Rattle.inert.specs.Search.{AreRoots, AreFrames, AreHandled, AreCacheable, Connects, Unvisited, Frame, IsFollowed}
 use Rattle.inert.specs.SearchMoves.{with_item, CutsRoots, with_pushed, GoesOn, ahead}
-use Rattle.inert.specs.{Steps.Under, Steps.remaining, Signed.HasPair}
-use Rattle.inert.proofs.Invariant.{here, no_root, no_frame, IsBefore, AllPairs-take, All-from_take, unseen-set}
+use Rattle.inert.specs.{Search.IsHandled, Steps.Under, Steps.remaining, Signed.HasPair}
+use Rattle.inert.proofs.Invariant.{pushed, here, no_root, no_frame, IsBefore, AllPairs-take, All-from_take, unseen-set}
 use Rattle.inert.proofs.Invariant.{unread-set, kept_still, KeepsStack, roots_kept, accounted_still, sound_still}
 use Rattle.inert.proofs.Invariant.{done_still, AreSound, reached, on_stack, ties, frames_some, root_low}
 
@@ -34,9 +34,6 @@ module _ {u : Under} {signatures : List (List (ℕ × ℕ))} {w : Search} (walks
     abbrev With : Search
     With = with_item x w
 
-    item_last : item_at With.items (length w.items) ≡ x
-    item_last = get_or_push w.items x _ (length w.items) refl
-
     collect_keeps : KeepsStack w With (length w.stack)
     collect_keeps = grind (arith, common_steps)
 
@@ -47,19 +44,19 @@ module _ {u : Under} {signatures : List (List (ℕ × ℕ))} {w : Search} (walks
     of_here i d h = grind (arith, common_steps, walks.roots.each, reached)
 
     pub collected_holds : (z : ℕ × ℕ) → GivesPair signatures x z → ComponentHasPair signatures With (here w) z
-    collected_holds z g = search (rules, length_push, item_last, of_here)
+    collected_holds z g = search (rules, pushed w.items x (Pair 0 0), of_here)
 
     pub SearchInvariant-collect : 0 < length w.frames → IsInternedItem signatures x
         → ((z : ℕ × ℕ) → GivesPair signatures x z
         → HasPair Branching u.l u.blocks (slice_index w.stack (here w)) z.0 z.1) → SearchInvariant u signatures With
     SearchInvariant-collect some there sound =
         let roots = roots_kept walks.roots w.frames With.items (λ i d h.
-        grind (arith, walks.roots.each i d h, length_push w.items x)) in
+        grind (arith, walks.roots.each i d h, pushed w.items x (Pair 0 0))) in
         let theirs = All-push (IsInternedItem signatures) w.items x walks.there there in
         let sounds : AreSound u signatures With = λ j low. elim (cases_lt j (length w.items)) [
           | inl h ↦ sound_still grow walks collect_keeps j h (omega arith) (λ p low _. low)
-          | inr h ↦ let e : j ≡ length w.items = omega (arith, low, h, length_push w.items x) in
-              rw e (here w, on_stack walks some, of_here, λ z g. sound z (rw item_last at g))
+          | inr h ↦ let e : j ≡ length w.items = omega (arith, low, h, (pushed w.items x (Pair 0 0)).0) in
+              rw e (here w, on_stack walks some, of_here, λ z g. sound z (rw (pushed w.items x (Pair 0 0)).1 at g))
         ] in
         let accounted : AreHandled u signatures With = λ p k lp lk source.
         accounted_still grow walks collect_keeps p k lp lk source (λ ahead. inl ahead) (λ t e. inr (inr e)) in
@@ -143,27 +140,6 @@ module _ {u : Under} {signatures : List (List (ℕ × ℕ))} {w : Search} (walks
     abbrev NewRoot : Root
     NewRoot = record { height = length w.stack; items = length w.items }
 
-    -- A frame records which outgoing transitions of a state on the stack are still to be read. Pushing the state t adds
-    -- t to the stack, and adds a frame for t to the list of frames. All earlier states on the stack and all earlier
-    -- frames stay the same.
-    size : length Entered.stack ≡ n + 1
-    size = length_push w.stack t
-
-    state_same : (p : ℕ) → p < n → slice_index Entered.stack p ≡ slice_index w.stack p
-    state_same p h = get_or_append_left w.stack _ _ p h
-
-    state_new : slice_index Entered.stack n ≡ t
-    state_new = get_or_push w.stack t _ n refl
-
-    frames_size : length Entered.frames ≡ length w.frames + 1
-    frames_size = length_push w.frames NewFrame
-
-    frame_same : (i : ℕ) → i < length w.frames → frame_at Entered.frames i ≡ frame_at w.frames i
-    frame_same i h = get_or_append_left w.frames _ _ i h
-
-    frame_new : frame_at Entered.frames (length w.frames) ≡ NewFrame
-    frame_new = get_or_push w.frames NewFrame _ (length w.frames) refl
-
     before_new : (P : Root → Type 0) → All P Entered.roots → All P w.roots
     before_new P all i d h = search (rules, get_or_append_left, w.roots, length_push)
 
@@ -174,50 +150,49 @@ module _ {u : Under} {signatures : List (List (ℕ × ℕ))} {w : Search} (walks
     stage_of s = grind (arith, elements, cases_eq s t, within)
 
     enter_keeps : KeepsStack w Entered n
-    enter_keeps = grind (arith, state_same, get_or_append_left, length_push, get_or_push, stage_of, unseen)
+    enter_keeps = grind (arith, get_or_append_left, length_push, get_or_push, stage_of, unseen)
 
     -- The current state is the state whose outgoing transitions are being read. If the search pushes the state t, it
     -- has gone from the current state to t, and has not yet returned from t (`IsBeingSearched`).
     pub entered_met : 0 < length w.frames → IsBeingSearched Entered (here w) t
-    entered_met some = grind (arith, common_steps, frames_size, frame_same, frame_new, state_new)
+    entered_met some = grind (arith, common_steps, pushed w.stack t 0, pushed w.frames NewFrame no_frame)
 
     entered_still : (p u : ℕ) → IsBeingSearched w p u → IsBeingSearched Entered p u
     entered_still p u (i, low, is, to) = let on = (walks.frames.each (i + 1) no_frame low).on_stack in
-        grind (arith, frame_same i, frame_same (i + 1), state_same, on, low, is, to, frames_size)
+        grind (arith, pushed w.frames NewFrame no_frame, pushed w.stack t 0, on, low, is, to)
 
     ahead_still : (p k : ℕ) → IsToBeRead w p k → IsToBeRead Entered p k
-    ahead_still p k (i, low, is, ahead) = grind (arith, common_steps, frame_same, frames_size)
+    ahead_still p k (i, low, is, ahead) = grind (arith, common_steps, pushed w.frames NewFrame no_frame)
 
     opened : AreOpen Entered.stages Entered.stack
     opened = record {
-      placed = λ p h. grind (arith, walks.opened.placed p, stage_of, state_same p, state_new, unseen, size, h);
-      only = λ s p is. grind (arith, stage_of s, walks.opened.only s p, state_same p, state_new, size, is);
+      placed = λ p h. grind (arith, walks.opened.placed p, stage_of, pushed w.stack t 0, unseen, h);
+      only = λ s p is. grind (arith, stage_of s, walks.opened.only s p, pushed w.stack t 0, is);
     }
 
     roots : AreRoots Entered
     roots = record {
-      first = λ _ all. let new = get_or_push w.roots NewRoot no_root (length w.roots) refl in
-          let before = before_new (λ r. 0 < r.height) all in
-          grind (arith, all (length w.roots) no_root, length_push w.roots NewRoot, new, walks.roots.first, before);
+      first = λ _ all. let before = before_new (λ r. 0 < r.height) all in
+          grind (arith, all (length w.roots) no_root, pushed w.roots NewRoot no_root, walks.roots.first, before);
       ascending = grind (arith, common_steps, all_pairs_push, walks.roots.ascending, root_low, walks.roots.each);
       each = All-push (IsRoot Entered.frames Entered.items) w.roots NewRoot
-          (λ i d h. grind (arith, walks.roots.each i d h, frame_same, frames_size))
-          (grind (arith, frame_new, frames_size));
+          (λ i d h. grind (arith, walks.roots.each i d h, pushed w.frames NewFrame no_frame))
+          (grind (arith, pushed w.frames NewFrame no_frame));
     }
 
     frames : AreFrames u.l Entered.stack Entered.frames
     frames = record {
       ascending = grind (arith, common_steps, all_pairs_push, walks.frames.ascending, walks.frames.each, on_stack);
       each = All-push (IsFrame u.l Entered.stack) w.frames NewFrame
-          (λ i d h. grind (arith, walks.frames.each i d h, size, state_same))
-          (grind (arith, size, state_new, row));
+          (λ i d h. grind (arith, walks.frames.each i d h, pushed w.stack t 0))
+          (grind (arith, pushed w.stack t 0, row));
     }
 
     accounted : AreHandled u signatures Entered
     accounted p k lp lk source = elim (cases_lt p n) [
       | inl low ↦ accounted_still grow walks enter_keeps p k low lk source (λ ahead. inl (ahead_still p k ahead))
           (λ u e. inr (inr (entered_still p u e)))
-      | inr high ↦ search (rules, size, row.exactly, state_new, frames_size, frame_new)
+      | inr high ↦ search (rules, row.exactly, pushed w.stack t 0, pushed w.frames NewFrame no_frame)
     ]
 
     module _ (step : 0 < length w.frames →
@@ -225,17 +200,17 @@ module _ {u : Under} {signatures : List (List (ℕ × ℕ))} {w : Search} (walks
       connects : Connects u Entered
       connects p q lp lq h = elim (cases_lt p n) [
         | inl low ↦ elim (cases_lt q n) [
-          | inl low' ↦ rw (state_same p low, state_same q low')
+          | inl low' ↦ rw ((pushed w.stack t 0).2 p low, (pushed w.stack t 0).2 q low')
               (walks.connects p q low low' (before_new (λ r. r.height ≤ p → r.height ≤ q) h))
           | inr high' ↦
-              let e : q ≡ n = omega (arith, lq, high', size) in
-              rw (state_same p low, e, state_new) (laws.after (system_of u.l) (slice_index u.blocks) _ _ _
-              (ties walks p low) (step (frames_some walks (omega (arith, low)))))
+              let e : q ≡ n = omega (arith, lq, high', (pushed w.stack t 0).0) in
+              let (longer, last, same) = pushed w.stack t 0 in
+              rw (same p low, e, last) (laws.after (system_of u.l) (slice_index u.blocks) _ _ _ (ties walks p low)
+              (step (frames_some walks (omega (arith, low)))))
         ]
         | inr high ↦
-            let new = get_or_push w.roots NewRoot no_root (length w.roots) refl in
-            let e : p ≡ q =
-            grind (arith, h (length w.roots) no_root, length_push w.roots NewRoot, new, lp, lq, high, size) in
+            let new = pushed w.roots NewRoot no_root in
+            let e : p ≡ q = grind (arith, h (length w.roots) no_root, new, lp, lq, high, (pushed w.stack t 0).0) in
             rw e (laws.here (system_of u.l) (slice_index u.blocks) (slice_index Entered.stack q))
       ]
 
@@ -246,9 +221,9 @@ module _ {u : Under} {signatures : List (List (ℕ × ℕ))} {w : Search} (walks
           kept_still grow u w.stages Entered.stages enter_keeps.finished s k
           (walks.signed s k (grind (arith, stage_of s, is))) in
           let sound : AreSound u signatures Entered =
-          λ j lj. sound_still grow walks enter_keeps j lj (omega (arith, size)) (λ p lp _. lp) in
+          λ j lj. sound_still grow walks enter_keeps j lj (omega (arith, (pushed w.stack t 0).0)) (λ p lp _. lp) in
           let sizes : HasVisitStates u.l.states (length signatures) (length Entered.stack) Entered.stages =
-          grind (arith, walks.sizes, length-set, size, fewer) in
+          grind (arith, walks.sizes, length-set, pushed w.stack t 0, fewer) in
           search (rules, walks, sizes, opened, signed, roots, frames, connects, sound, accounted)
 
       -- Suppose that an inert step leads from the current state, if there is one, to the state t. If the search pushes

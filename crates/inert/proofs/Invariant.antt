@@ -5,12 +5,12 @@
 -- lemmas are about a move that does not change the states below some index of the stack. They show that the invariant
 -- still holds for these states after the move. The move may intern further signatures.
 use Rattle.std.proofs.Common.{ℕ, ◌-◌, ◌<◌, ◌≤◌, List, length, take, get_or, arith, rules, ◌≡◌, ◌∙◌, ◌+◌, false, cond}
-use Rattle.std.proofs.Common.{set, map, ap, refl, sym, take_all, slice_index, ◌⊎◌, ◌↔◌, inl, inr}
+use Rattle.std.proofs.Common.{set, map, ap, refl, sym, take_all, slice_index, ◌⊎◌, ◌↔◌, inl, inr, [], ◌∷◌, ◌++◌}
 use Rattle.std.specs.List.{All, AllPairs, sum}
-use Rattle.std.proofs.lemmas.List.Elements.{All-from_get_or, filter_agree}
-use Rattle.std.proofs.lemmas.List.{same_lists, get_or-map, length-map, get_or_default, get_or_past}
+use Rattle.std.proofs.lemmas.List.{same_lists, get_or-map, length-map, get_or_default, get_or_past, length_push}
 use Rattle.std.proofs.lemmas.List.Sums.{sum-map, sum_by_more, sum_by-set}
-use Rattle.std.proofs.lemmas.{Grind.elements, Grind.common_steps, Bool.Decides.nat_tests}
+use Rattle.std.proofs.lemmas.{List.Elements.All-from_get_or, List.Elements.filter_agree, List.get_or_push}
+use Rattle.std.proofs.lemmas.{List.get_or_append_left, Grind.elements, Grind.common_steps, Bool.Decides.nat_tests}
 use Rattle.inert.specs.Search.{Search, Frame, Root, top, root_at, stage_at, frame_at, VisitState, Unvisited}
 use Rattle.inert.specs.Search.{is_unvisited, unseen, unread, rest, Laws, LeadsInertly, IsSigned, SearchInvariant}
 use Rattle.inert.specs.Search.{Completed, AreOpen, item_at, GivesPair, IsNotBelow, BelongsTo, ComponentHasPair}
@@ -51,6 +51,13 @@ last roots = root_at roots (length roots - 1)
 -- stored for the component of x is not greater than the index that is stored for the component of y.
 abbrev pub IsBefore : Root → Root → Type 0
 IsBefore x y = (x.height < y.height) × (x.items ≤ y.items)
+
+-- If an element x is appended to a list, the list gets longer by 1, its last element is x, and the other elements stay
+-- the same.
+pub pushed : {X : Type 0} (xs : List X) (x d : X) → (length (xs ++ x ∷ []) ≡ length xs + 1)
+    × (get_or (xs ++ x ∷ []) (length xs) d ≡ x)
+    × ((i : ℕ) → i < length xs → get_or (xs ++ x ∷ []) i d ≡ get_or xs i d)
+pushed xs x d = (length_push xs x, get_or_push xs x d (length xs) refl, λ i h. get_or_append_left xs (x ∷ []) d i h)
 
 -- Suppose that each element of a list is in a given relation to all elements after it (`AllPairs`). Then, in the list
 -- of the first n elements, each element is in this relation to all elements after it.
