@@ -21,19 +21,13 @@ use Rattle.autfmt.proofs.Lines.{one_hide_line, hide_line_reader}
 use Rattle.autfmt.specs.declared.line.TheConstants.{LONGEST_LINE}
 use Rattle.autfmt.specs.declared.limits.TheConstants.{MOST_LINES}
 
--- Every line of a hide list (a file with one label to hide on each line) is correct or has an error.
-hide_judged : (k : ℕ) (line : List ℕ) → ((a : List ℕ) × Hides line a) ⊎ ((fault : Fault) × HideFault k line fault)
-hide_judged k line = elim (line_judged (hide_line_reader line) (λ a. None) k (BadHide k) line) [
-  | inr bad ↦ inr bad
-  | inl (a, short, names, none) ↦ inl (a, (short, names))
-]
-
 -- Each line of a hide list (a file with one label to hide on each line) is correct or has exactly one error.
 pub hides : AreJudged Hides (λ found. HideFault (found + 1)) (λ found. TooManyHidden) (λ found fault. ⊥)
 hides = record {
   one = λ found line. LineFault-unique (hide_line_reader line);
   apart = λ found line a fault good. LineFault-not_good (hide_line_reader line) a fault good.0 good.1 refl;
-  judged = λ found. hide_judged (found + 1);
+  judged = λ found line. ⊎_elim (λ good. inl (good.0, (good.1, good.2))) (λ bad. inr bad)
+      (line_judged (hide_line_reader line) (λ a. None) (found + 1) (BadHide (found + 1)) line);
   long = λ found line k. LineFault-long HideLine k (λ e. cc) (λ a e. cc);
   extra_long = λ found k e. cc;
   one_lack = λ found f g lack other. absurd lack;

@@ -55,17 +55,13 @@ HideReadSoFar-new old hidden e none = grind arith
 -- hide list is read).
 module _ {given : List ℕ} {old : Cutting} {H hidden : List (List ℕ)} (got : List ℕ)
     (so_far : HideReadSoFar given old H hidden) where
-  as_many : length H ≡ length so_far.lines
-  as_many = AllZip-long Hides so_far.lines H so_far.named
-
   -- Suppose that a hide list may have as many lines as were read, and that all bytes that were read have been divided
   -- into lines. Then these bytes are a hide list with the labels that were read.
   pub hide_ends : length H ≤ MOST_LINES → old.ahead ++ got ≡ [] → HidesAs (given ++ got) hidden
-  hide_ends few none = (
-    H,
-    (so_far.lines, HasCut-end given got so_far.lines old so_far.cut none, omega (arith, as_many), so_far.named),
-    so_far.same,
-  )
+  hide_ends few none =
+      let as_many = AllZip-long Hides so_far.lines H so_far.named in
+      let l = HasCut-end given got so_far.lines old so_far.cut none in
+      (H, (so_far.lines, l, omega arith, so_far.named), so_far.same)
 
   -- Suppose that the source (the object from which the hide list is read) fails before the next line has been read to
   -- its end. Then the reader may return `Device`, which is the error of a failed source. The contract allows this error

@@ -3,7 +3,7 @@
 -- system, which is the system or an error.
 use Rattle.std.proofs.Common.{ℕ, List, ◌++◌, Option, Result, MatchResult, arith, ◌≡◌, ◌⊎◌, ◌+◌, ◌<◌, ◌≤◌, true, false}
 use Rattle.std.proofs.Common.{[], ◌∷◌, length, Some, IfSome, Ok, Err, IfOk, IfErr, refl, sym, ◌∙◌, ap, subst, inl, inr}
-use Rattle.std.proofs.Common.{None, rules}
+use Rattle.std.proofs.Common.{rules}
 use Rattle.std.specs.Io.KnownBytes.{Consumes, IsAtEnd}
 use Rattle.std.proofs.KnownBytes.{Consumes-trans}
 use Rattle.std.proofs.lemmas.List.{append_assoc, append-nil}
@@ -12,7 +12,7 @@ use Rattle.std.proofs.lemmas.Slice.Zip.{all_zipped_more}
 use Rattle.std.proofs.lemmas.List.Sorted.{length_permutation, Contains-permutation}
 use Rattle.theory.specs.System.{Transition, IsAmong}
 use Rattle.lts.specs.Lts.{Grouped, IsBuilt}
-use Rattle.autfmt.specs.Outcomes.{Takes, Refuses, ReadsTo, AnswersRead}
+use Rattle.autfmt.specs.Outcomes.{Takes, Refuses, ReadsTo}
 use Rattle.autfmt.specs.declared.fault.Fault.{Fault}
 use Rattle.autfmt.specs.declared.fault.Fault.TheVariants.{LineTooLong, MissingEdges, ExtraText, Device, Memory}
 use Rattle.autfmt.specs.declared.held.Held.{Held}
@@ -252,22 +252,6 @@ pub count_held : (H : List (List ℕ)) (n : ℕ) (held : Held) (es : List Transi
 count_held H n held es found holds count = sym (Holds-length H n held es holds) ∙ sym count
 
 -- ---- The result of reading a system
-
--- A source is the object from which the input is read. Suppose that the contract of the source states the whole input.
--- If the reader returns an error in the contents of the input, then this error is the first error of the input.
-pub told_fault :
-    (bounds : Bounds) (H : List (List ℕ)) (old new : Option (List ℕ)) (failures : ℕ) (result : Result Grouped Fault) →
-    AnswersRead bounds H old new failures result →
-    IfSome old (λ text. IfErr result (λ f. IsTextFault f → FirstFault bounds text f))
-told_fault bounds H None new failures result answer = tt
-told_fault bounds H (Some text) None failures result answer = absurd answer.took
-told_fault bounds H (Some text) (Some more) failures (Ok s) answer = tt
-told_fault bounds H (Some text) (Some more) failures (Err f) answer = step answer.outcome
-  where
-    step : Refuses bounds answer.given (Some more) failures f → IsTextFault f → FirstFault bounds text f
-    step (faulty_text sound is first) kind = subst (λ (t : List ℕ). FirstFault bounds t f) (sym answer.took) first
-    step (failed_source failed e none) kind = absurd (subst IsTextFault e kind)
-    step (no_memory sound e good) kind = absurd (subst IsTextFault e kind)
 
 -- Assume that the bytes `got` were read and stored as triples, and that the system s was built from these triples.
 module _ (bounds : Bounds) (H : List (List ℕ)) (got : List ℕ) (p : Promise) (held : Held) (s : Grouped)

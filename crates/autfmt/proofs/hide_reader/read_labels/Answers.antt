@@ -1,4 +1,4 @@
-use Rattle.std.proofs.Common.{◌≡◌, ◌+◌, ℕ, List, [], ◌∷◌, ◌++◌, length, Ok, ◌∙◌, ap, refl, arith}
+use Rattle.std.proofs.Common.{[], ◌∷◌, ◌++◌, length, Ok, ap, refl, arith}
 use Rattle.std.proofs.lemmas.List.{length_push}
 use Rattle.std.proofs.lemmas.Result.{err_from_is_err_and}
 use Rattle.std.proofs.KnownBytes.{Consumes-nil, Consumes-trans}
@@ -17,9 +17,6 @@ loop-found-init g c =
         end = λ over. let open_at = fresh_open c.new-cutter.result c.new-cutter.ensures in absurd cc;
       };
     }
-
-one_more : (H : List (List ℕ)) (a : List ℕ) (found : ℕ) → length H ≡ found → length (H ++ a ∷ []) ≡ found + 1
-one_more H a found count = length_push H a ∙ ap (λ (n : ℕ). n + 1) count
 
 pub returns-in_err-some : goal.returns-in_err-some
 returns-in_err-some g c =
@@ -41,8 +38,9 @@ loop-found-preserved g c =
     let (before, taken, H, so_far, count) = c.loop-found.invariant.got in
     let (line, took, step) = rw c.if-not-some.false at c.in_ok-some.ensures.line in
     let (a, next) = step before H so_far count in
+    let long = length_push H a in
     record {
-      got = (before ++ line, Consumes-trans _ _ _ before line taken took, H ++ a ∷ [], next, one_more H a _ count);
+      got = (before ++ line, Consumes-trans _ _ _ before line taken took, H ++ a ∷ [], next, omega arith);
       few = c.in_ok-some.ensures.few;
       source = c.in_ok-some.ensures.source;
     }
