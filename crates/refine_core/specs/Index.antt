@@ -3,7 +3,7 @@
 -- backwards along transitions, which it looks up in the index. This file defines which states the search has to find,
 -- and what holds while the search is in progress. The place of a transition is its index in the list of all
 -- transitions.
-use Rattle.std.specs.Prelude.{◌≡◌, ◌⊎◌, ℕ, ◌==◌, Bool, false, IsTrue, List, length, slice_index, slice_index_or}
+use Rattle.std.specs.Prelude.{◌≡◌, ◌⊎◌, ℕ, ◌≤◌, ◌==◌, Bool, false, IsTrue, List, length, slice_index, slice_index_or}
 use Rattle.std.specs.List.{All, IsDistinct}
 use Rattle.std.specs.Io.{StartsWith}
 use Rattle.theory.specs.System.{Step, internal}
@@ -87,12 +87,13 @@ pub record AreMarked (marks : List Bool) (found : List ℕ) : Type 0 where
   pub once : IsDistinct (λ s t. s == t) found
 
 -- The record `at` contains a list of marks, and a list of the states that a search has found. `MarksFound` holds if
--- both of the following conditions hold. First, the list of marks contains one mark for each state of the system, where
--- `states` is the number of these states. Second, the marked states are exactly the found states, and no state is twice
--- in the list of the found states (`AreMarked`).
+-- all three of the following conditions hold. First, the list of marks contains one mark for each state of the system,
+-- where `states` is the number of these states. Second, the marked states are exactly the found states, and no state is
+-- twice in the list of the found states (`AreMarked`). Third, the length of this list is at most `states`.
 pub record MarksFound (states : ℕ) (at : Affected) : Type 0 where
   pub size : length at.marks.items ≡ states
   pub marked : AreMarked at.marks.items at.states.items
+  pub few : length at.states.items ≤ states
 
 -- `SearchIsOn` holds while a search is in progress. The list `of` must contain the block ID of each state. The record
 -- `at` contains the predecessor index, the marks of the states, and the states that were found so far. The predecessor
