@@ -6,7 +6,6 @@ pub mod FirstFaults
 pub mod LineFaults
 pub mod FaultLaws
 pub mod HideLaws
-pub mod Gathering
 pub mod Holding
 pub mod ReaderSteps
 pub mod HideSteps

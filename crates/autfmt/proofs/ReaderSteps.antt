@@ -27,7 +27,7 @@ use Rattle.autfmt.specs.Readers.{IsTextFault, HasGoodHeader}
 use Rattle.autfmt.specs.ReadSoFar.{ReadSoFar, HeldSoFar, ReadsOneMore, HoldsText}
 use Rattle.autfmt.specs.Outcomes.Refuses.{no_memory, failed_source, faulty_text}
 use Rattle.autfmt.proofs.FirstFaults.{behind}
-use Rattle.autfmt.proofs.FaultLaws.{edges, Reads-from_lines, no_judged_header, no_judged_fault}
+use Rattle.autfmt.proofs.FaultLaws.{edges, Reads-from_lines, no_judged_fault}
 use Rattle.autfmt.proofs.Holding.{Holds-length}
 use Rattle.autfmt.proofs.Cutting.{HasCut-line, HasCut-too_long, HasCut-end, HasCut-more, HasCut-part}
 
@@ -65,13 +65,6 @@ none_to_come rest more e end = subst (λ (o : Option (List ℕ)). IsAtEnd o) e e
 -- Assume that line 1 is read by a line splitter that has not taken any bytes before.
 module _ (bounds : Bounds) (old : Cutting) (got : List ℕ) (rest : Option (List ℕ)) (failures : ℕ)
     (new : old ≡ fresh) where
-  -- Suppose that the source (the object from which the input is read) fails before line 1 has been read to its end.
-  -- Then the reader may return `Device`, which is the error of a failed source. The contract allows this error only if
-  -- the first error of the input still depends on the bytes that may follow. The reason for this is that line 1 may
-  -- still become too long.
-  pub header_failed : failures ≡ 1 → IsPart (old.ahead ++ got) → Refuses bounds got rest failures Device
-  header_failed failed part = failed_source failed refl (λ f. no_judged_header bounds got f (rw new at part))
-
   -- If line 1 is too long, the reader may return `LineTooLong` with the line number 1.
   pub header_too_long : failures ≡ 0 → BeginsTooLong (old.ahead ++ got) →
       Refuses bounds got rest failures (LineTooLong 1)
@@ -158,6 +151,12 @@ module _ {bounds : Bounds} {given : List ℕ} {old : Cutting} {p : Promise} {es 
       (old.over ≡ false) × (old.ahead ++ got ≡ []) → Refuses bounds (given ++ got) rest failures Device
   end_failed rest failures count failed (open_at, none) = grind (arith, transition_failed, All-nil)
 
+  -- If the next line is split off, then the bytes that were read have been divided into the lines that were read before
+  -- and this line.
+  pub next_cut : (now : Cutting) → (old.over ≡ false) × CutsLine (old.ahead ++ got) now →
+      HasCut (given ++ got) (before ++ now.line ∷ []) now
+  next_cut = HasCut-line given got before old so_far.cut
+
   -- Suppose that the next line denotes a transition e, and that the source and the target of e are states of the
   -- system. Then the transitions that have been read are the transitions before this line and e.
   pub transition_good : (line : List ℕ) (now : Cutting) (e : Transition) →
@@ -170,14 +169,6 @@ module _ {bounds : Bounds} {given : List ℕ} {old : Cutting} {p : Promise} {es 
     good = so_far.good;
     spelled = grind (arith, all_zipped_more, p.states, so_far.lines, line, so_far.spelled);
   }
-
-  -- If an allocation fails while the next transition is stored, then the reader may return `Memory`.
-  pub transition_refused :
-      (now : Cutting) (rest : Option (List ℕ)) (failures : ℕ) → failures ≡ 0 → (now.over ≡ true → IsAtEnd rest) →
-      (old.over ≡ false) × CutsLine (old.ahead ++ got) now → Refuses bounds (given ++ got) rest failures Memory
-  transition_refused now rest failures sound end cuts =
-      no_memory_behind bounds (given ++ got) so_far.header (so_far.lines ++ now.line ∷ []) now p.first p.transitions
-      p.states rest failures (HasCut-line given got before old so_far.cut now cuts) so_far.good sound end
 
   -- Assume that the source (the object from which the input is read) has not failed. If the contract of the source
   -- states which bytes the source contains, each error that the reader returns must then be the first error of the
@@ -227,8 +218,7 @@ module _ {bounds : Bounds} {given : List ℕ} {old : Cutting} {p : Promise} {es 
         IsTextFault fault → Refuses bounds (given ++ got) rest failures fault
     transition_faulty now fault promised end cuts bad kind =
         refused_behind fault kind (omega arith) (λ more told.
-        let s = HasCut-line given got before old so_far.cut now cuts in
-        let l = s more (λ over. none_to_come rest more told (end over)) in
+        let l = next_cut now cuts more (λ over. none_to_come rest more told (end over)) in
         let others = lines_of (now.ahead ++ more) in
         (now.line ∷ others, l ∙ append_assoc before (now.line ∷ []) others, inl (inl (promised, bad))))
 

@@ -1,7 +1,12 @@
+use Rattle.std.proofs.Common.{refl}
 use Rattle.std.proofs.lemmas.Result.{err_from_is_err_and}
-use Rattle.autfmt.proofs.ReaderSteps.{fresh_open, header_failed, header_too_long, header_answer}
+use Rattle.autfmt.specs.Outcomes.Refuses.{failed_source}
+use Rattle.autfmt.proofs.FaultLaws.{no_judged_header}
+use Rattle.autfmt.proofs.ReaderSteps.{fresh_open, header_too_long, header_answer}
 use Rattle.autfmt.proofs.reader.read_header.Goals as goal
 
+-- If the source (the object from which the input is read) fails before line 1 has been read to its end, then the error
+-- `Device` is allowed, because line 1 may still become too long.
 pub returns-in_err-advance-clause-header : goal.returns-in_err-advance-clause-header
 returns-in_err-advance-clause-header g c =
     let s = c.in_err-advance.ensures.step in
@@ -10,7 +15,8 @@ returns-in_err-advance-clause-header g c =
       given = s.0;
       took = s.1;
       outcome = rw (p.1, p.2)
-          (header_failed _ _ s.0 _ _ c.requires.fresh c.in_err-advance.ensures.failures s.2.1);
+          (failed_source c.in_err-advance.ensures.failures refl (λ f. no_judged_header _ s.0 f (rw c.requires.fresh at
+          s.2.1)));
     }
 
 pub returns-in-TooLong-clause-header : goal.returns-in-TooLong-clause-header

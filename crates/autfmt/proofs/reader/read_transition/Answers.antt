@@ -1,11 +1,10 @@
-use Rattle.std.proofs.Common.{◌≡◌, List, ◌∷◌, length, inl, arith}
+use Rattle.std.proofs.Common.{◌≡◌, List, ◌++◌, length, inl, arith}
 use Rattle.std.proofs.lemmas.Result.{err_from_is_err_and}
 use Rattle.theory.specs.System.{Transition, IsAmong}
 use Rattle.autfmt.specs.Held.{Holds}
 use Rattle.autfmt.proofs.Holding.{Holds-add}
-use Rattle.autfmt.proofs.Cutting.{HasCut-line}
 use Rattle.autfmt.proofs.ReaderSteps.{transition_too_long, transition_missing, transition_failed, transition_good}
-use Rattle.autfmt.proofs.ReaderSteps.{transition_faulty, transition_refused, count_held}
+use Rattle.autfmt.proofs.ReaderSteps.{transition_faulty, no_memory_behind, next_cut, count_held}
 use Rattle.autfmt.proofs.reader.read_transition.Given.{Over}
 use Rattle.autfmt.proofs.reader.read_transition.Goals as goal
 use Rattle.autfmt.proofs.reader.read_transition.Goals.{After-advance, In_ok-read}
@@ -72,7 +71,8 @@ returns-in_err-add-clause-transition g c =
       s.0,
       s.1,
       λ bounds given es standing. rw (p.1, p.2)
-          (transition_refused s.0 standing.0 _ _ _ c.in_ok-advance.ensures.failures end s.2),
+          (no_memory_behind bounds (given ++ s.0) standing.0.header _ c.advance.new.self _ _ _ _ _
+          (next_cut s.0 standing.0 _ s.2) standing.0.good c.in_ok-advance.ensures.failures end),
     )
 
 -- If the reader has checked a transition successfully, then the source and the target of this transition are states of
@@ -96,8 +96,7 @@ returns-clause-transition g c =
       s.0,
       s.1,
       λ bounds given es standing.
-          let before = standing.0.header ∷ standing.0.lines in
-          let cut = HasCut-line given s.0 before c.args.cutter.now standing.0.cut _ s.2 in
+          let cut = next_cut s.0 standing.0 _ s.2 in
           let so_far = transition_good s.0 standing.0 _ _ e cut s.2.1.short good among in
           let added = c.in_ok-add.ensures.added standing.1.shown in
           (e, (so_far, Holds-add _ _ _ _ es e standing.1 among added)),

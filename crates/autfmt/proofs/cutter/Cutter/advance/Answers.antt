@@ -2,7 +2,7 @@ use Rattle.std.proofs.Common.{rules, ◌≡◌, ℕ, List, [], ◌++◌, sym, �
 use Rattle.std.proofs.KnownBytes.{Consumes-nil}
 use Rattle.std.specs.List.{slice_range}
 use Rattle.autfmt.specs.Cutter.{Cutting, CutsLine}
-use Rattle.autfmt.proofs.Gathering.{cut_at, line_in_piece}
+use Rattle.autfmt.proofs.Cutting.{cut_at, line_in_piece}
 use Rattle.autfmt.proofs.cutter.Cutter.advance.Goals as goal
 
 pub returns-in-Some-clause-step : goal.returns-in-Some-clause-step
