@@ -211,8 +211,8 @@ module _ (rel : Relation) (l : Grouped) (lts : IsLts l) (r : Signed) (ready : Is
   abbrev blocks : List ℕ
   blocks = r.blocks.block_ids
 
-  -- `AreEqualTogether` holds if the entries of the states s and t in `signature_ids` are equal if and only if the signatures of s
-  -- and t are equal.
+  -- `AreEqualTogether` holds if the entries of the states s and t in `signature_ids` are equal if and only if the
+  -- signatures of s and t are equal.
   abbrev AreEqualTogether : ℕ → ℕ → Type 0
   AreEqualTogether s t = (slice_index signature_ids s ≡ slice_index signature_ids t)
       ↔ SameSignature rel (system_of l) (slice_index blocks) s t
@@ -325,9 +325,9 @@ module _ (l : Grouped) (r : Signed) (ready : IsReadyToSign Branching l r) where
     same_list s h = signs.grow.same (slice_index r.cached s) (within s h)
 
     -- Let s be an active state, which is a state that the round processes. Suppose that, before the signatures were
-    -- computed, the cached ID of s was the ID of the signature that s had in the last round. Then the cached ID of s has
-    -- changed if and only if the signature of s has changed. A signature that is empty in this round was empty in the
-    -- last round, too. So `signature_ids` contains the ID of the split signature of s (`IsSplitSignature`).
+    -- computed, the cached ID of s was the ID of the signature that s had in the last round. Then the cached ID of s
+    -- has changed if and only if the signature of s has changed. A signature that is empty in this round was empty in
+    -- the last round, too. So `signature_ids` contains the ID of the split signature of s (`IsSplitSignature`).
     split_id : IsLts l → (s : ℕ) → s < l.states → IsMember active s
         → IsListOf l (Was Branching l ready.old s) (list_of r.signatures r.cached s)
         → IsSplitSignature Branching l ready.old of s (list_of signatures signature_ids s)

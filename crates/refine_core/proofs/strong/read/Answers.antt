@@ -8,8 +8,7 @@ pub loop-k-preserved : goal.loop-k-preserved
 loop-k-preserved g c =
     let i = c.loop-k.invariant in
     let k = c.loop-k.k in
-    let row = λ (k : ℕ). c.rows_follow.ensures.inside c.args.under.now.l.now.places c.args.s _ _ k
-    c.row-start.ensures in
+    let row = λ (k : ℕ). c.rows_follow.ensures.inside _ _ _ _ k c.row-start.ensures in
     let one = row k i.begun (omega (arith, c.loop-k-test.true)) in
     let two = row (k + 1) (omega (arith, i.begun)) (omega (arith, c.loop-k-test.true)) in
     let first = c.collect-affected.ensures.pairs in
@@ -30,11 +29,9 @@ returns-then-k-end-clause-pairs g c = search (rules, take_all, c.row-start.ensur
 pub returns-clause-pairs : goal.returns-clause-pairs
 returns-clause-pairs g c =
     let i = c.loop-k.invariant in
-    let places = c.args.under.now.l.now.places in
-    let k = c.loop-k.k in
     let (start, end) = c.row-start.result in
-    let last : k < end = omega (arith, i.within, c.if-k-end.false) in
-    let row = c.rows_follow.ensures.inside places c.args.s _ _ k c.row-start.ensures i.begun last in
-    let all = take_all ((k + 1) - start) (row_of c.args.s places)
+    let last : c.loop-k.k < end = omega (arith, i.within, c.if-k-end.false) in
+    let row = c.rows_follow.ensures.inside _ _ _ _ _ c.row-start.ensures i.begun last in
+    let all = take_all ((c.loop-k.k + 1) - start) (row_of c.args.s c.args.under.now.l.now.places)
     (omega (arith, c.row-start.ensures.count, last, c.loop-k-test.false)) in
     grind (arith, common_steps, all, row, i.pairs, c.edge-last.ensures, c.collect.ensures.pairs)

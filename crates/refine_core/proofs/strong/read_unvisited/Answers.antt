@@ -27,13 +27,12 @@ edge-transition-requires-clause-room g c =
 
 pub loop-k-preserved : goal.loop-k-preserved
 loop-k-preserved g c =
-    let places = c.args.under.now.l.now.places in
     let i = c.loop-k.invariant in
-    let k = c.loop-k.k in
     let (start, end) = c.row-start.result in
+    let k = c.loop-k.k in
     let from : start ≤ k = omega (arith, c.loop-k.auto) in
-    let row = c.rows_follow.ensures.inside places c.args.s _ _ k c.row-start.ensures from
-    (omega (arith, c.loop-k-test.true, c.loop-k.auto)) in
+    let below : k < end = omega (arith, c.loop-k-test.true, c.loop-k.auto) in
+    let row = c.rows_follow.ensures.inside _ _ _ _ _ c.row-start.ensures from below in
     record {
       room = omega (arith, i.room, c.collect-affected.ensures.room);
       pairs = grind (arith, common_steps, row, i.pairs, c.edge-transition.ensures, c.collect-affected.ensures.pairs);
