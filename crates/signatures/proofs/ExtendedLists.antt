@@ -82,31 +82,27 @@ pub whole_is : (trie new : List (List (ℕ × ℕ))) (x : ℕ × List (ℕ × �
 whole_is trie new x i stored stored' is low unites =
     unites_is_merged _ x.1 _ (stored'.ascending i [] low) is.ascending (stored.ascending x.0 [] is.base) unites
 
--- Each list of the table has a tag, which is a hash of 32 bits. The number of tags equals the number of lists.
-pub tags_size : {trie : List (List (ℕ × ℕ))} {extensions : List (ℕ × List (ℕ × ℕ))} {tags : List ℕ}
-    → AreExtended trie extensions tags → length tags ≡ length extensions
-tags_size are = search (rules, are.tagged, length-map)
-
-first_is : (trie : List (List (ℕ × ℕ))) (extensions : List (ℕ × List (ℕ × ℕ))) {tags : List ℕ}
-    → AreExtended trie extensions tags
-    → list_at trie 0 ≡ [] → list_at (extended_lists trie extensions) 0 ≡ []
-first_is trie extensions are none = search (rules, get_or-map, are.first, merged_nil, none)
-
--- The table stores lists, and the trie stores the parts that several of these lists can share. Suppose that all lists
--- of the table are stored correctly (`AreExtended`), and that the list with the ID 0 in the trie is empty. Suppose also
--- that a list is not empty and is not in the table yet. If this list is appended to the table, and its tag (a hash of
--- 32 bits) is appended to the tags, all lists of the table are still stored correctly. In particular, no two of these
--- lists are equal.
-module _ (trie : List (List (ℕ × ℕ))) (extensions : List (ℕ × List (ℕ × ℕ))) (tags : List ℕ) (x : ℕ × List (ℕ × ℕ))
-    (tag : ℕ)
+-- The table stores lists, and the trie stores the parts that several of these lists can share. These lemmas assume that
+-- all lists of the table are stored correctly (`AreExtended`).
+module _ {trie : List (List (ℕ × ℕ))} {extensions : List (ℕ × List (ℕ × ℕ))} {tags : List ℕ}
     (are : AreExtended trie extensions tags) where
-  pub AreExtended-push : IsExtension trie x → list_at trie 0 ≡ [] → (extended trie x ≡ [] → ⊥)
-      → IsNewList (extended_lists trie extensions) (extended trie x)
+  -- Each list of the table has a tag, which is a hash of 32 bits. The number of tags equals the number of lists.
+  pub tags_size : length tags ≡ length extensions
+  tags_size = search (rules, are.tagged, length-map)
+
+  first_is : list_at trie 0 ≡ [] → list_at (extended_lists trie extensions) 0 ≡ []
+  first_is none = search (rules, get_or-map, are.first, merged_nil, none)
+
+  -- Suppose that the list with the ID 0 in the trie is empty. Suppose also that a list is not empty and is not in the
+  -- table yet. If this list is appended to the table, and its tag (a hash of 32 bits) is appended to the tags, all
+  -- lists of the table are still stored correctly. In particular, no two of these lists are equal.
+  pub AreExtended-push : (x : ℕ × List (ℕ × ℕ)) (tag : ℕ) → IsExtension trie x → list_at trie 0 ≡ []
+      → (extended trie x ≡ [] → ⊥) → IsNewList (extended_lists trie extensions) (extended trie x)
       → tag ≡ tag_of (extended trie x) → AreExtended trie (extensions ++ x ∷ []) (tags ++ tag ∷ [])
-  AreExtended-push is none some absent tagged =
+  AreExtended-push x tag is none some absent tagged =
       let longer = length_push extensions x in
       let filled = are.some in
-      let empty = first_is trie extensions are none in
+      let empty = first_is none in
       record {
         each = All-push (IsExtension trie) extensions x are.each is;
         some = omega arith;
@@ -116,18 +112,15 @@ module _ (trie : List (List (ℕ × ℕ))) (extensions : List (ℕ × List (ℕ 
         tagged = simp (are.tagged, tagged, map-append);
       }
 
--- The table stores lists, and the trie stores the parts that several of these lists can share. Suppose that the table
--- and the trie fit together (`AreExtended`), and that the lists of the trie are stored correctly (`AreStored`). Suppose
--- also that the table has at most 2^32 - 1 lists (`MOST_LISTS`). Then no two lists of the table are equal, and each
--- list of the table is in strictly ascending order (`AreLists`).
-pub AreLists-extended : {trie : List (List (ℕ × ℕ))} {extensions : List (ℕ × List (ℕ × ℕ))} {tags : List ℕ}
-    → AreStored trie
-    → AreExtended trie extensions tags → length tags ≤ MOST_LISTS → AreLists (extended_lists trie extensions)
-AreLists-extended {trie} {extensions} {tags} stored are few =
-    let ascending : All (IsStrictlySortedBy pair_cmp) (extended_lists trie extensions) =
-    All-map (IsStrictlySortedBy pair_cmp) (extended trie) extensions (All-weaker (IsExtension trie) _
-    (λ x is. merged_ascending _ _ (stored.ascending x.0 [] is.base) is.ascending) extensions are.each) in
-    search (rules, length-map, tags_size, first_is, stored, are)
+  -- Suppose that the lists of the trie are stored correctly (`AreStored`), and that the table has at most 2^32 - 1
+  -- lists (`MOST_LISTS`). Then no two lists of the table are equal, and each list of the table is in strictly ascending
+  -- order (`AreLists`).
+  pub AreLists-extended : AreStored trie → length tags ≤ MOST_LISTS → AreLists (extended_lists trie extensions)
+  AreLists-extended stored few =
+      let ascending : All (IsStrictlySortedBy pair_cmp) (extended_lists trie extensions) =
+      All-map (IsStrictlySortedBy pair_cmp) (extended trie) extensions (All-weaker (IsExtension trie) _
+      (λ x is. merged_ascending _ _ (stored.ascending x.0 [] is.base) is.ascending) extensions are.each) in
+      search (rules, length-map, tags_size, first_is, stored, are)
 
 -- A list is stored in two parts: its base, which is a list of pairs that several lists can share, and its extra pairs,
 -- which are all other pairs of the list. The base with the ID 0 is the empty list. Suppose that the base of a list has

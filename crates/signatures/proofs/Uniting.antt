@@ -37,16 +37,22 @@ IsParted-over over = record { joined = refl; under = search rules; over = over }
 -- Suppose that a list is stored as two halves. Then the list has more than 64 pairs (`MOST_WHOLE`). The number that is
 -- stored with the halves is the number at which the list has to be divided (`IsCut`). One half contains the pairs whose
 -- numbers (`pair_value`) are less than the stored number, and the other half contains the other pairs.
-pub halved_long : {lists : List (List (ℕ × ℕ))} {k : ℕ} {h : Halves} → IsHalved lists k h →
-    MOST_WHOLE < length (list_at lists k)
-halved_long {lists} {h} is = search (rules, is.halves.long, is.list, length-append, h.below, h.above)
+module _ {lists : List (List (ℕ × ℕ))} {k : ℕ} {h : Halves} (is : IsHalved lists k h) where
+  pub halved_long : MOST_WHOLE < length (list_at lists k)
+  halved_long = search (rules, is.halves.long, is.list, length-append, h.below, h.above)
 
-pub halved_cut : {lists : List (List (ℕ × ℕ))} {k : ℕ} {h : Halves} → IsHalved lists k h → IsCut (list_at lists k) h.cut
-halved_cut {lists} {k} {h} is = subst (λ l. IsCut l h.cut) (sym is.list) is.halves.at_cut
+  pub halved_cut : IsCut (list_at lists k) h.cut
+  halved_cut = subst (λ l. IsCut l h.cut) (sym is.list) is.halves.at_cut
 
-pub halved_parted : {lists : List (List (ℕ × ℕ))} {k : ℕ} {h : Halves} → IsHalved lists k h
-    → IsParted (list_at lists k) h.cut (list_at lists h.below) (list_at lists h.above)
-halved_parted is = record { joined = is.list; under = is.halves.under; over = is.halves.over }
+  pub halved_parted : IsParted (list_at lists k) h.cut (list_at lists h.below) (list_at lists h.above)
+  halved_parted = record { joined = is.list; under = is.halves.under; over = is.halves.over }
+
+  pub ends_halves : HasEnds (list_at lists k) (h.cut - 1) h.cut
+  ends_halves = record {
+    before = (halved_cut.below.0, halved_cut.below.1, omega (arith, halved_cut.below.2));
+    after = halved_cut.above;
+    alike = λ bit l h c place under over. alike_wider _ bit l h c _ place halved_cut (omega arith) (omega arith);
+  }
 
 -- Suppose that the number c divides the list with the ID k into two interned lists: the lower part with the ID `below`,
 -- and the upper part with the ID `above`. Suppose also that all interned lists are in `mid` and in `new`, with the same
@@ -117,16 +123,6 @@ module _ {xs ys below above below' above' : List (ℕ × ℕ)} {c : ℕ} (first 
       let fewer = ascending_fewer ys _ ascending (λ z d. (all z).1 (inr d)) in
       let parted = united_parted _ _ low high in
       (AreHalvesIn-parts (omega (arith, grow.longer)) high_in parted (cut _ all) (omega arith), all)
-
-pub ends_halves : {lists : List (List (ℕ × ℕ))} {k : ℕ} {h : Halves} → IsHalved lists k h
-    → HasEnds (list_at lists k) (h.cut - 1) h.cut
-ends_halves is =
-    let cut = halved_cut is in
-    record {
-      before = (cut.below.0, cut.below.1, omega (arith, cut.below.2));
-      after = cut.above;
-      alike = λ bit l h c place under over. alike_wider _ bit l h c _ place cut (omega arith) (omega arith);
-    }
 
 -- The split point of a list is the number at which the list is divided into two halves (`IsCut`). The condition
 -- `HasEnds` relates a list of pairs to two numbers. Suppose that `HasEnds` holds for the list xs with the numbers `low`

@@ -38,7 +38,7 @@ more : (c : In_ok-id-2) → AreExtended c.args.bases.now.trie (c.args.self.now.e
     (c.args.self.now.buckets.tags ++ c.mix-tag.result ∷ [])
 more c =
     let known = c.invariants.ensures in
-    AreExtended-push _ _ _ (parts_of c.args.list) c.mix-tag.result c.requires.extensions c.requires.list
+    AreExtended-push c.requires.extensions (parts_of c.args.list) c.mix-tag.result c.requires.list
     known.stored.first
     (extended_some _ _ known.stored known.different c.requires.list (not_both c))
     (rw c.in_default.is at c.in_ok-id.ensures.found) (c.mix-tag.ensures ∙ ap mixed c.sum_of.ensures)
