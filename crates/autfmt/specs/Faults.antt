@@ -29,8 +29,7 @@ pub data LineFault {X : Type 0} (IsRead : X → Type 0) (fault_in : X → Option
 -- have several of the errors below, the result is the first of these errors.
 abbrev pub numbers_fault : Bounds → ℕ × ℕ × ℕ → Option Fault
 numbers_fault bounds (f, m, n) =
-    if n == 0 then Some NoStates else
-    if nat_le n f then Some FirstState else
+    if n == 0 then Some NoStates else if nat_le n f then Some FirstState else
     if nat_lt bounds.states n then Some TooManyStates else
     if nat_lt bounds.transitions m then Some TooManyTransitions else None
 
