@@ -3,8 +3,7 @@ pub mod Table
 pub mod Filters
 pub mod Rows
 pub mod Placing
-pub mod Fields
-pub mod Rising
+pub mod StoredRows
 pub mod Joining
 pub mod Indexing
 pub mod Visits

@@ -1,7 +1,7 @@
 use Rattle.std.proofs.Common.{rules, [], ◌∷◌, ◌++◌, arith}
 use Rattle.std.proofs.lemmas.Grind.{common_steps}
 use Rattle.lts.specs.Rows.{in_rows, AreRows}
-use Rattle.lts.proofs.Rising.{AreRows-push, rows-told}
+use Rattle.lts.proofs.StoredRows.{AreRows-push, rows-told}
 use Rattle.lts.proofs.ascending_rows.Rows.push.Goals as goal
 
 rows : (c : goal.After-push_reserved) →

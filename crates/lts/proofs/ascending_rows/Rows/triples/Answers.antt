@@ -2,7 +2,7 @@ use Rattle.std.proofs.Common.{◌∙◌, List, [], ◌∷◌, ◌++◌, take, ap
 use Rattle.std.proofs.lemmas.List.{take_all, take_more}
 use Rattle.lts.specs.Lts.{Triple}
 use Rattle.lts.specs.Rows.{in_rows}
-use Rattle.lts.proofs.Rising.{rows-length, rows-place}
+use Rattle.lts.proofs.StoredRows.{rows-length, rows-place}
 use Rattle.lts.proofs.ascending_rows.Rows.triples.Goals as goal
 
 pub loop-k-preserved : goal.loop-k-preserved

@@ -1,6 +1,6 @@
 use Rattle.std.proofs.Common.{subst}
 use Rattle.lts.specs.Labels.{IsTable}
-use Rattle.lts.proofs.Fields.{laid_out-made, IsLaidOut-grouped}
+use Rattle.lts.proofs.StoredRows.{laid_out-made, IsLaidOut-grouped}
 use Rattle.lts.proofs.lts.Lts.from_shared.Goals as goal
 
 pub invariant_of-result : goal.invariant_of-result

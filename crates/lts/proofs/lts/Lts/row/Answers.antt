@@ -1,5 +1,5 @@
 use Rattle.std.proofs.Common.{arith, ap}
-use Rattle.lts.proofs.Fields.{laid_out-states, laid_out-row}
+use Rattle.lts.proofs.StoredRows.{laid_out-states, laid_out-row}
 use Rattle.lts.proofs.lts.Lts.row.Goals as goal
 
 pub between-requires : goal.between-requires
