@@ -1,6 +1,6 @@
 -- These are the lemmas of this crate that the proofs of other crates use. The proofs of other crates import no other
 -- proof file of this crate.
-pub use Rattle.lts.proofs.Filters.{contains_mapped, mapped_contains, contains_passing, passing_contains, filter-whole}
+pub use Rattle.lts.proofs.Filters.{contains_mapped, mapped_contains, contains_passing, passing_contains}
 pub use Rattle.lts.proofs.Filters.{length-filter-sum}
 pub use Rattle.lts.proofs.Joining.{take-split, transitions-kept}
 pub use Rattle.lts.proofs.Indexing.{index-fewer, index-leaves}

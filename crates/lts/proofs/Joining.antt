@@ -124,13 +124,12 @@ module _ (a b : Grouped) (labels : List (List ℕ)) (es : List Triple) (la : IsL
         (c.0, subst (λ es'. Contains es' c.0) (sym (made.places ∙ union-places)) c.1, c.2),
   )
 
-shifted-zero : ◌≡◌ {A = Transition → Transition} (shifted 0) (λ t. t)
-shifted-zero i t = record { source = zero-add t.source i; label = t.label; target = zero-add t.target i }
-
 -- Suppose that triples for the transitions of the first system are appended to an empty list, and that triples for the
 -- transitions of the second system are appended after them. Then the resulting triples represent the transitions of the
 -- union.
 pub AddsShifted-both : (n : ℕ) (ts us : List Transition) (l0 l1 l2 : List (List ℕ)) (e0 e1 e2 : List Triple) → e0 ≡ [] →
     AddsShifted 0 ts l0 e0 l1 e1 → AddsShifted n us l1 e1 l2 e2 → map (transition_of l2) e2 ≡ ts ++ map (shifted n) us
 AddsShifted-both n ts us l0 l1 l2 e0 e1 e2 none a b =
-    let first : map (shifted 0) ts ≡ ts = ap (λ f. map f ts) shifted-zero ∙ map-id ts in search (rules, first)
+    let same : (t : Transition) → shifted 0 t ≡ t =
+    λ t i. record { source = zero-add t.source i; label = t.label; target = zero-add t.target i } in
+    let first : map (shifted 0) ts ≡ ts = (λ i. map (λ t. same t i) ts) ∙ map-id ts in search (rules, first)
