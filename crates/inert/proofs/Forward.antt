@@ -14,12 +14,12 @@ use Rattle.lts.specs.{Lts.system_of, Lts.IsRow, Lts.place_at, Visited.price_betw
 use Rattle.lts.proofs.CallerLemmas.{row_left}
 use Rattle.signatures.specs.Lists.{Grow}
 use Rattle.signatures.proofs.CallerLemmas.{Grow-same}
-use Rattle.inert.specs.Search.{Pair, HasVisitStates, Search, IsInternedItem, BelongsTo, GivesPair}
-use Rattle.inert.specs.Search.{ComponentHasPair, SearchInvariant, Item, Laws, stage_at, IsNotBelow, IsRoot}
-use Rattle.inert.specs.Search.{IsInComponent, Root, OnStack, frame_at, IsFrame, IsBeingSearched, IsToBeRead, AreOpen}
-use Rattle.inert.specs.Search.{AreRoots, AreFrames, AreHandled, AreCacheable, Connects, Unvisited, Frame, IsFollowed}
+use Rattle.inert.specs.Search.{Pair, HasVisitStates, Search, IsInternedItem, BelongsTo, GivesPair, ComponentHasPair}
+use Rattle.inert.specs.Search.{SearchInvariant, Item, Laws, stage_at, IsNotBelow, IsRoot, IsInComponent, Root, OnStack}
+use Rattle.inert.specs.Search.{frame_at, IsFrame, IsBeingSearched, IsToBeRead, AreOpen, AreRoots, AreFrames, AreHandled}
+use Rattle.inert.specs.Search.{AreCacheable, Connects, Unvisited, Frame, IsFollowed, IsHandled}
 use Rattle.inert.specs.SearchMoves.{with_item, CutsRoots, with_pushed, GoesOn, ahead}
-use Rattle.inert.specs.{Search.IsHandled, Steps.Under, Steps.remaining, Signed.HasPair}
+use Rattle.inert.specs.{Steps.Under, Steps.remaining, Signed.HasPair}
 use Rattle.inert.proofs.Invariant.{pushed, here, no_root, no_frame, IsBefore, AllPairs-take, All-from_take, unseen-set}
 use Rattle.inert.proofs.Invariant.{unread-set, kept_still, KeepsStack, roots_kept, accounted_still, sound_still}
 use Rattle.inert.proofs.Invariant.{done_still, AreSound, reached, on_stack, ties, frames_some, root_low}

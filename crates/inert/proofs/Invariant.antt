@@ -9,8 +9,8 @@ use Rattle.std.proofs.Common.{set, map, ap, refl, sym, take_all, slice_index, â—
 use Rattle.std.specs.List.{All, AllPairs, sum}
 use Rattle.std.proofs.lemmas.List.{same_lists, get_or-map, length-map, get_or_default, get_or_past, length_push}
 use Rattle.std.proofs.lemmas.List.Sums.{sum-map, sum_by_more, sum_by-set}
-use Rattle.std.proofs.lemmas.{List.Elements.All-from_get_or, List.Elements.filter_agree, List.get_or_push}
-use Rattle.std.proofs.lemmas.{List.get_or_append_left, Grind.elements, Grind.common_steps, Bool.Decides.nat_tests}
+use Rattle.std.proofs.lemmas.{List.get_or_push, List.get_or_append_left, List.Elements.All-from_get_or}
+use Rattle.std.proofs.lemmas.{List.Elements.filter_agree, Grind.elements, Grind.common_steps, Bool.Decides.nat_tests}
 use Rattle.inert.specs.Search.{Search, Frame, Root, top, root_at, stage_at, frame_at, VisitState, Unvisited}
 use Rattle.inert.specs.Search.{is_unvisited, unseen, unread, rest, Laws, LeadsInertly, IsSigned, SearchInvariant}
 use Rattle.inert.specs.Search.{Completed, AreOpen, item_at, GivesPair, IsNotBelow, BelongsTo, ComponentHasPair}

@@ -1,21 +1,26 @@
--- Lemmas about how the search reads the row (the outgoing transitions) of the current state. The code marks a
--- transition as read before it processes the transition. The proofs use the opposite order, which has the same result.
+-- Lemmas about how the search reads the row (the outgoing transitions) of a state. The code marks a transition as read
+-- before it processes the transition. The proofs use the opposite order, which has the same result. The last lemmas are
+-- about the first phase of a search. In this phase, the first state of the search is not yet on the stack and has no
+-- frame. A frame belongs to a state on the stack, and records which outgoing transitions of this state are still to be
+-- read. In the first phase, the search behaves as if its first state were on the stack and had a frame.
 use Rattle.std.proofs.Common.{◌≡◌, ℕ, ◌+◌, ◌-◌, ◌<◌, ◌≤◌, List, [], ◌∷◌, length, slice_index, Bool, refl, sym, ◌∙◌, ap}
-use Rattle.std.proofs.Common.{subst, inl, inr, arith, set, IsTrue, get_or-set_same, length-set}
+use Rattle.std.proofs.Common.{subst, inl, inr, arith, set, IsTrue, get_or-set_same, length-set, rules, get_or-set_other}
 use Rattle.std.proofs.lemmas.{Bool.cases_Bool, List.length_push, List.get_or_append_left, List.set-append_left}
 use Rattle.theory.specs.{declared.relation.Relation.TheVariants.Branching, Blocks.Inert}
-use Rattle.lts.specs.Lts.{Triple, source_of, target_of, place_at, system_of, IsLts}
+use Rattle.lts.specs.Lts.{Triple, source_of, target_of, place_at, system_of, IsLts, IsRow}
 use Rattle.lts.specs.Visited.{price, price_between}
 use Rattle.lts.proofs.CallerLemmas.{place_step, price_none, price_one_more}
 use Rattle.inert.specs.Search.{Search, Laws, frame_at, top, IsFrame, IsFollowed, IsHandled, SearchInvariant, OnStack}
-use Rattle.inert.specs.Search.{Frame, Root, Item, Pair, Interned, unseen, KeepsVisited}
-use Rattle.inert.specs.SearchMoves.{with_pushed, with_item, HandlesStep, ahead, steps, GoesOn}
+use Rattle.inert.specs.Search.{Frame, Root, Item, Pair, Interned, unseen, KeepsVisited, nothing, stage_at, VisitState}
+use Rattle.inert.specs.SearchMoves.{with_pushed, with_item, HandlesStep, ahead, steps, GoesOn, LeadsOn, Finishes}
+use Rattle.inert.specs.SearchMoves.{Closes, IsAtRest, IsUnionOfItems}
 use Rattle.inert.specs.declared.lens.Step.TheVariants.{Inert as Goes, Shows}
 use Rattle.inert.specs.Steps.{Under, IsInert, IsStep}
-use Rattle.inert.specs.{declared.lens.Step.Step as TakenStep, Signed.HasPair, Signed.pair_under}
+use Rattle.inert.specs.{Search.Unvisited, Search.Completed, declared.lens.Step.Step, Signed.HasPair, Signed.pair_under}
 use Rattle.inert.proofs.Invariant.{no_frame, here, stays_on, goes_on, unseen-set, rest-next, rest-most, pair_before}
 use Rattle.inert.proofs.Forward.{SearchInvariant-collect, collected_holds, SearchInvariant-join, joined_here}
-use Rattle.inert.proofs.{Invariant.list_signed, Forward.entered_on, Forward.entered_met, Forward.SearchInvariant-next}
+use Rattle.inert.proofs.Forward.{entered_on, entered_met, SearchInvariant-next}
+use Rattle.inert.proofs.{Invariant.list_signed, Resting.within, Back.popped, Back.closed}
 
 -- The last frame of the search records which outgoing transitions of the current state are still to be read. These
 -- lemmas assume that the first of these transitions is at the place k, which is an index in the list of all
@@ -105,7 +110,7 @@ module _ (laws : Laws) {u : Under} (lts : IsLts u.l) {signatures : List (List (�
 
   -- The invariant of the search still holds after the search has processed the transition e, whether or not e is inert
   -- (`Taken`).
-  pub taken : (step : TakenStep) (m : Search) (enters : Bool) → IsStep u (slice_index u.blocks (source_of e)) e step
+  pub taken : (step : Step) (m : Search) (enters : Bool) → IsStep u (slice_index u.blocks (source_of e)) e step
       → HandlesStep u.l.places step w m enters → Taken m enters
   taken (Shows a b) m enters (other, is) (new, stay) =
       rw new (stayed w.roots (with_item (Pair a b) w).items enters
@@ -121,7 +126,7 @@ module _ (laws : Laws) {u : Under} (lts : IsLts u.l) {signatures : List (List (�
 -- A frame records which outgoing transitions of a state on the stack are still to be read. Suppose that the search
 -- first changes a frame, and then processes a transition. The result is the same if the search first processes the
 -- transition, and then changes the frame.
-marked_first : (places : List Triple) (w : Search) {m : Search} (enters : Bool) {i : ℕ} {x : Frame} (step : TakenStep)
+marked_first : (places : List Triple) (w : Search) {m : Search} (enters : Bool) {i : ℕ} {x : Frame} (step : Step)
     → i < length w.frames → HandlesStep places step (record w { frames = set w.frames i x }) m enters
     → (m' : Search) × HandlesStep places step w m' enters × (m ≡ record m' { frames = set m'.frames i x })
 marked_first places w enters (Shows a b) low (new, stay) = (with_item (Pair a b) w, (refl, stay), new)
@@ -198,7 +203,7 @@ module _ {u : Under} {signatures : List (List (ℕ × ℕ))} {first w : Search} 
 
     module _ (block : ℕ) {stack : List ℕ} (same_stack : w.stack ≡ stack)
         (is_block : block ≡ slice_index u.blocks (slice_index stack x.height))
-        (step : TakenStep) (is_step : IsStep u block (place_at u.l.places k) step) {j : ℕ} (last : j ≡ i) {y : Frame}
+        (step : Step) (is_step : IsStep u block (place_at u.l.places k) step) {j : ℕ} (last : j ≡ i) {y : Frame}
         (is : y ≡ record (frame_at w.frames j) { next = k + 1 }) where
       same_last : j ≡ length w.frames - 1
       same_last = omega (arith, size, last)
@@ -242,3 +247,106 @@ module _ {u : Under} {signatures : List (List (ℕ × ℕ))} {first w : Search} 
       marked {enters = enters} takes =
           let (m', takes', is_m) = marked_first u.l.places w enters step (omega (arith, same_last, now_some)) takes in
           subst (λ m. Marked u signatures first w m i x k enters) (sym is_m) (taken_first m' enters takes')
+
+-- Returns the data of a search with an empty stack. The argument `stages` contains the status of each state. The
+-- argument `items` contains the items that the search has collected. An item is a pair (label ID, block) or a signature
+-- ID.
+abbrev pub collecting : List VisitState → List Item → Search
+collecting stages items = record (nothing stages) { items = items }
+
+-- An item is a pair (label ID, block) or a signature ID. Returns the data of a search that has collected the items
+-- `items`, and has pushed the state s as its first state. The frame of s records which transitions of s are still to be
+-- read. These transitions are at the places k (indices in the list of all transitions) with `next` <= k < `end`.
+abbrev pub framed : ℕ → ℕ → ℕ → List VisitState → List Item → Search
+framed s next end stages items = with_pushed s next end 0 (collecting stages items)
+
+-- A frame records which outgoing transitions of a state are still to be read. Returns the frame of the first state of
+-- the search, which is at the index 0 of the stack. The frame records the transitions at the places (indices in the
+-- list of all transitions) from `start` to `end` - 1.
+abbrev pub first_frame : ℕ → ℕ → Frame
+first_frame start end = record { height = 0; next = start; end = end }
+
+-- A frame records which outgoing transitions of a state on the stack are still to be read. Suppose that no search is in
+-- progress, and that the unvisited state s is then pushed with a frame for all of its outgoing transitions. Then the
+-- invariant of the search still holds, and the number of visits (reads of transitions that the meter counts) that the
+-- search still has to make has not changed (`Reads`).
+pub begins : {u : Under} {signatures : List (List (ℕ × ℕ))} {w : Search} {s start end : ℕ} → Laws
+    → IsAtRest u signatures w → s < u.l.states → stage_at w.stages s ≡ Unvisited → IsRow u.l.places s start end
+    → Reads u signatures w (framed s start end w.stages w.items) 0 (first_frame start end) start
+begins {u = u} {signatures = signatures} {w = w} {s = s} {start = start} {end = end} laws rests inside none row =
+    let walks = subst (SearchInvariant u signatures) rests.empty rests.walks in
+    let (on, ahead) = entered_on walks laws (within rests inside) none row (λ some. absurd (omega (arith, some))) in
+    subst (λ old. Reads u signatures old (framed s start end old.stages old.items) 0 (first_frame start end) start)
+    (sym rests.empty) (grind (arith, on, ahead, price_none u.visited start))
+
+module _ (laws : Laws) {u : Under} (lts : IsLts u.l) {signatures : List (List (ℕ × ℕ))} {old w : Search}
+    {s start end k : ℕ} (low : s < length old.stages) (same : w ≡ collecting old.stages w.items)
+    (begun : Reads u signatures old (framed s k end old.stages w.items) 0 (first_frame start end) k) where
+  abbrev Framed : Search
+  Framed = framed s k end old.stages w.items
+
+  -- These lemmas assume that the transition at the place k (the index k in the list of all transitions) belongs to the
+  -- first state s of the search, and is read next.
+  module _ (more : k < end) where
+    abbrev Is : Step → Type 0
+    Is step = IsStep u (slice_index u.blocks s) (place_at u.l.places k) step
+
+    abbrev Next : Search → Type 0
+    Next m = Reads u signatures old m 0 (first_frame start end) (k + 1) × (¬ (stage_at m.stages s ≡ Unvisited))
+
+    -- A place is an index in the list of all transitions. A frame records which outgoing transitions of a state are
+    -- still to be read. Suppose that the search has read the transitions of its first state s at the places j with
+    -- `start` <= j < k (`Reads`). Suppose also that s is on the stack with a frame for its transitions at the places
+    -- greater than k, and that the search then processes the transition at the place k. Then the search has read the
+    -- transitions at the places less than k + 1, and s is not unvisited.
+    pub takes_framed : (step : Step) {m : Search} (enters : Bool) → Is step →
+        HandlesStep u.l.places step (framed s (k + 1) end old.stages w.items) m enters → Next m
+    takes_framed step enters is takes =
+        let went = marked begun refl laws lts more (slice_index u.blocks s) refl refl step is refl refl takes in
+        (went.reads, grind (arith, went.seen.unseen s, get_or-set_same old.stages s (OnStack 0) Unvisited low))
+
+    -- A place is an index in the list of all transitions. A frame records which outgoing transitions of a state are
+    -- still to be read. Suppose that the transition at the place k is not inert, or that its target is completed. If
+    -- the search processes this transition without pushing its first state s, two facts hold. First, the stack is still
+    -- empty. Second, if s were on the stack with a frame for its transitions at the places greater than k, the search
+    -- would have read the transitions of s at the places less than k + 1 (`Reads`).
+    module _ (none : stage_at old.stages s ≡ Unvisited) where
+      abbrev Collects : Search → Type 0
+      Collects m = (m ≡ collecting old.stages m.items) × Next (framed s (k + 1) end old.stages m.items)
+
+      pub takes_bare : {m : Search} (enters : Bool) (step : Step) → Is step → ¬ LeadsOn w.stages step →
+          HandlesStep u.l.places step w m enters → Collects m
+      takes_bare enters (Shows a b) is still (new, stay) =
+          rw (new, same) (refl, takes_framed (Shows a b) enters is (refl, stay))
+      takes_bare enters (Goes t) is still (inl (unseen, new, went)) = absurd (still (t, refl, inl unseen))
+      takes_bare enters (Goes t) is still (inr (inl (q, stage, cuts, new, stay))) =
+          absurd (still (t, refl, inr (q, stage)))
+      takes_bare enters (Goes t) is still (inr (inr (id, stage, new, stay))) =
+          let was = rw same at stage in
+          let stage' = get_or-set_other old.stages s t (OnStack 0) Unvisited (λ e. cc) ∙ was in
+          rw (new, same) (refl, takes_framed (Goes t) enters is (inr (inr (id, stage', refl, stay))))
+
+  -- An item is a pair (label ID, block) or a signature ID. A signature ID represents all pairs of the signature with
+  -- this ID. These lemmas assume that all transitions of the first state s were read. The lemmas also assume that s is
+  -- then completed with the ID of a signature, and that this signature contains exactly the pairs that the collected
+  -- items represent.
+  module _ (over : end ≤ k) {lists' : List (List (ℕ × ℕ))} {id : ℕ}
+      (listed : IsUnionOfItems w.items signatures lists' id) where
+    abbrev Ended : Search
+    Ended = nothing (set old.stages s (Completed id))
+
+    finishes : Finishes (s ∷ []) 0 id Framed.stages Ended.stages
+    finishes = search rules
+
+    closes : Closes (record { height = 0; items = 0 }) signatures lists' (popped Framed) Ended
+    closes = search (rules, id, listed, finishes)
+
+    pub begun_ends : {new : Search} → new ≡ record w { stages = set w.stages s (Completed id); items = [] }
+        → GoesOn u signatures lists' old new × (¬ (stage_at new.stages s ≡ Unvisited))
+        × (ahead u new + price_between u.visited start k ≡ ahead u old)
+    begun_ends is =
+        let most = (begun.on.walks.frames.each 0 no_frame (omega arith)).most in
+        let (on, same_ahead, same_unseen) =
+        closed laws lts begun.on.walks (omega arith) (omega (arith, most, over)) refl closes in
+        let now = get_or-set_same old.stages s (Completed id) Unvisited low in
+        rw (is, same) (goes_on begun.on on, grind (arith, now), omega (arith, begun.less, same_ahead))

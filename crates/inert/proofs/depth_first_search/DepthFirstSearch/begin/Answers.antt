@@ -3,8 +3,7 @@ use Rattle.std.proofs.lemmas.{Bool.false≢true, Grind.common_steps}
 use Rattle.lts.proofs.CallerLemmas.{price_none, price_first, price_one_more}
 use Rattle.lts.specs.Meter.{Costs}
 use Rattle.inert.specs.{Search.Search, Search.Completed, SearchMoves.ahead}
-use Rattle.inert.proofs.Beginning.{begins, takes_framed, takes_bare, begun_ends}
-use Rattle.inert.proofs.Resting.{within}
+use Rattle.inert.proofs.{Reading.begins, Reading.takes_framed, Reading.takes_bare, Reading.begun_ends, Resting.within}
 use Rattle.inert.proofs.depth_first_search.DepthFirstSearch.begin.Goals.{After-step-step}
 use Rattle.inert.proofs.depth_first_search.DepthFirstSearch.begin.Given.{Over}
 use Rattle.inert.proofs.depth_first_search.DepthFirstSearch.begin.Goals as goal

@@ -1,6 +1,6 @@
 use Rattle.std.proofs.Common.{◌≡◌}
 use Rattle.lts.specs.{Meter.Costs, Visited.price_between}
-use Rattle.inert.proofs.{Beginning.collecting, Beginning.framed, Beginning.first_frame, Reading.Reads}
+use Rattle.inert.proofs.Reading.{collecting, framed, first_frame, Reads}
 use Rattle.inert.proofs.depth_first_search.DepthFirstSearch.begin.Given as goal
 
 abbrev pub invariant-loop-k : goal.invariant-loop-k
