@@ -2,20 +2,13 @@
 -- differs from this system only in the order of its transitions. So a comparison of two systems in memory has the same
 -- verdict (whether the systems are equivalent) as a comparison of the systems that the inputs describe. The two
 -- comparisons take the same number of rounds, too. The lemmas below prove these facts.
-use Rattle.std.proofs.Common.{rules, ◌≡◌, ◌↔◌, ℕ, ◌+◌, ◌*◌, Bool, IsTrue, List, length, ap₂, sym}
-use Rattle.std.specs.List.Sorted.{IsPermutation}
+use Rattle.std.proofs.Common.{rules, ◌≡◌, ◌↔◌, ℕ, ◌+◌, ◌*◌, Bool, IsTrue, List, length, ap₂, sym, IsPermutation}
 use Rattle.std.proofs.lemmas.List.Sorted.{IsPermutation-sym}
-use Rattle.theory.specs.System.{System, Hide}
-use Rattle.theory.specs.Bisimulation.{Equivalent}
-use Rattle.theory.specs.declared.relation.Relation.{Relation}
-use Rattle.theory.specs.Blocks.{Turns}
-use Rattle.theory.specs.Alike.{SameSteps}
-use Rattle.theory.specs.Union.{union_of}
-use Rattle.lts.specs.Lts.{Grouped, system_of}
-use Rattle.lts.specs.Meter.{Counts}
+use Rattle.theory.specs.{System.System, System.Hide, Bisimulation.Equivalent, declared.relation.Relation.Relation}
+use Rattle.theory.specs.{Blocks.Turns, Alike.SameSteps, Union.union_of}
+use Rattle.lts.specs.{Lts.Grouped, Lts.system_of, Meter.Counts}
 use Rattle.quotient.specs.Visits.{StaysWithin, union_passes}
-use Rattle.autfmt.specs.Bounds.{Bounds}
-use Rattle.autfmt.specs.Readers.{ReadsAs}
+use Rattle.autfmt.specs.{Bounds.Bounds, Readers.ReadsAs}
 use Rattle.autbis.specs.Comparisons.{CountsUnion, IsVerdict, ReadBoth, states_of, transitions_of}
 use Rattle.autbis.specs.Runs.{Request}
 

@@ -2,44 +2,31 @@
 -- failure. The contract of a source (an object from which an input is read) or of an opener (an object that opens files
 -- by their names) may state the contents of an input. The variable `revealed` is the contents that the contract states,
 -- or `None` if the contract states no contents.
-use Rattle.std.proofs.Common.{◌≡◌, ◌⊎◌, ℕ, Bool, List, ◌++◌, Option, Some, None, IfSome, if◌then◌else◌}
-use Rattle.std.proofs.Common.{inl, inr, ap, refl, sym, subst}
+use Rattle.std.proofs.Common.{◌≡◌, ◌⊎◌, ℕ, Bool, List, ◌++◌, Option, Some, None, IfSome, if◌then◌else◌, inl, inr, ap}
+use Rattle.std.proofs.Common.{refl, sym, subst}
 use Rattle.std.proofs.lemmas.Option.{none-some}
 use Rattle.std.specs.Io.KnownBytes.{Consumes}
 use Rattle.lts.specs.Meter.{Counts}
-use Rattle.theory.specs.System.{System}
-use Rattle.autfmt.specs.Bounds.{Bounds}
+use Rattle.autfmt.specs.{Faults.FirstFault, HideLists.FirstHideFault, HideLists.HideReads, HideOutcomes.HideRefuses}
+use Rattle.autfmt.specs.{HideReaders.IsHideFault, Outcomes.Refuses, Readers.IsTextFault, Texts.Reads, Written.listed}
 use Rattle.autfmt.specs.declared.fault.Fault.{Fault}
 use Rattle.autfmt.specs.declared.fault.Fault.TheVariants.{Device, Memory}
-use Rattle.autfmt.specs.Faults.{FirstFault}
-use Rattle.autfmt.specs.HideLists.{FirstHideFault, HideReads}
-use Rattle.autfmt.specs.HideOutcomes.{HideRefuses}
 use Rattle.autfmt.specs.HideOutcomes.HideRefuses.{faulty_text as list_fault, failed_source as list_lost}
 use Rattle.autfmt.specs.HideOutcomes.HideRefuses.{no_memory as list_memory}
-use Rattle.autfmt.specs.HideReaders.{IsHideFault}
-use Rattle.autfmt.specs.Outcomes.{Refuses}
 use Rattle.autfmt.specs.Outcomes.Refuses.{faulty_text, failed_source, no_memory as refused_memory}
-use Rattle.autfmt.specs.Readers.{IsTextFault}
-use Rattle.autfmt.specs.Texts.{Reads}
-use Rattle.autfmt.specs.Written.{listed}
-use Rattle.autbis.specs.declared.compare.CmpFault.{CmpFault}
+use Rattle.autbis.specs.{declared.compare.CmpFault.CmpFault, declared.run.Counts.Counts as Sizes, Ends.Contents}
+use Rattle.autbis.specs.{Ends.EndsRun, Ends.HasFaultyText, Ends.IsAnswer, Ends.OfText, Ends.Contents.one}
+use Rattle.autbis.specs.{Ends.Contents.two, Files.FilesUsed, Files.HasLostNone, Files.Name, Jobs.HideListFails}
+use Rattle.autbis.specs.{Opened.AreAsRevealed, Reports.ShowsCountsOf, Reports.status_of, Runs.IsFaulty, Runs.IsReadable}
+use Rattle.autbis.specs.{Runs.Request, Runs.MinimisationFails, Runs.MinimisesTo, Runs.Used}
 use Rattle.autbis.specs.declared.compare.Side.TheVariants.{First}
-use Rattle.autbis.specs.declared.run.Counts.{Counts as Sizes}
 use Rattle.autbis.specs.Comparisons.{ComparisonFails, ComparesTo, line_of}
 use Rattle.autbis.specs.Comparisons.ComparisonFails.{first_not_read, second_not_read, out_of_memory as no_room}
 use Rattle.autbis.specs.Comparisons.ComparisonFails.{not_written as no_line}
-use Rattle.autbis.specs.Ends.{Contents, EndsRun, HasFaultyText, IsAnswer, OfText}
-use Rattle.autbis.specs.Ends.Contents.{one, two}
 use Rattle.autbis.specs.Ends.EndsRun.{answered, faulty, no_memory, lost, cut_short}
-use Rattle.autbis.specs.Files.{FilesUsed, HasLostNone, Name}
-use Rattle.autbis.specs.Jobs.{HideListFails}
 use Rattle.autbis.specs.Jobs.HideListFails.{list_failed, no_memory as list_unread_memory, list_faulty}
-use Rattle.autbis.specs.Opened.{AreAsRevealed}
-use Rattle.autbis.specs.Reports.{ShowsCountsOf, status_of}
-use Rattle.autbis.specs.Runs.{IsFaulty, IsReadable, Request, MinimisationFails, MinimisesTo, Used}
 use Rattle.autbis.specs.Runs.MinimisationFails.{not_read, out_of_memory, not_written}
-use Rattle.autbis.proofs.Carried.{all_taken, of_all}
-use Rattle.autbis.proofs.InOrder.{revealed_then}
+use Rattle.autbis.proofs.{Carried.all_taken, Carried.of_all, InOrder.revealed_then}
 
 -- `NotBoth Good Bad` holds if no text satisfies `Good` and has the error `Bad` at the same time.
 abbrev pub NotBoth : {X : Type 0} → (List ℕ → X → Type 0) → (List ℕ → Fault → Type 0) → Type 0

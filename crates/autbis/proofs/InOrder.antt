@@ -1,13 +1,12 @@
 -- An opener is an object that opens files by their names. The lemmas in this file are about several calls of an opener,
 -- which open files one after the other, or close files. The first lemma is about the contents of a file that was
 -- opened.
-use Rattle.std.proofs.Common.{rules, ◌≡◌, ◌≤◌, ℕ, List, ◌++◌, Option, Some, IfSome, ◌∙◌, ap, sym, append_assoc}
-use Rattle.std.proofs.Common.{arith, inl, inr}
+use Rattle.std.proofs.Common.{rules, ◌≡◌, ◌≤◌, ℕ, List, ◌++◌, Option, Some, IfSome, ◌∙◌, ap, sym, append_assoc, arith}
+use Rattle.std.proofs.Common.{inl, inr}
 use Rattle.std.proofs.lemmas.Option.{IfSome_then}
+use Rattle.autbis.specs.{Jobs.IsGivenUp, Jobs.HideListFails, Opened.OnlyCloses}
 use Rattle.autbis.specs.Files.{FilesUsed, HasAll, HasLostNone, IsRefused, Name, Opens}
-use Rattle.autbis.specs.Jobs.{IsGivenUp, HideListFails}
 use Rattle.autbis.specs.Jobs.HideListFails.{list_failed, no_memory, list_faulty}
-use Rattle.autbis.specs.Opened.{OnlyCloses}
 
 -- Suppose that a file was opened, and that the property P holds for the bytes that can be read from the open file. The
 -- contract of the opener (an object that opens files by their names) may state the contents of the file. In this case,

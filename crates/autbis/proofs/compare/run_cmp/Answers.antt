@@ -1,19 +1,14 @@
 use Rattle.std.proofs.Common.{rules, ◌↔◌, ◌+◌, ◌*◌, Bool, IsTrue, List, ℕ, length, refl}
-use Rattle.theory.specs.Bisimulation.{Equivalent}
-use Rattle.theory.specs.Blocks.{Turns}
-use Rattle.theory.specs.Union.{union_of}
+use Rattle.theory.specs.{Bisimulation.Equivalent, Blocks.Turns, Union.union_of}
 use Rattle.lts.specs.Lts.{system_of}
 use Rattle.quotient.specs.Visits.{StaysWithin, union_passes}
 use Rattle.autfmt.specs.declared.fault.Fault.TheVariants.{Memory}
+use Rattle.autbis.specs.{Runs.Request, Runs.asks, Runs.used, declared.compare.Side.TheVariants.Run}
 use Rattle.autbis.specs.Comparisons.{CountsUnion, HasReadBoth, IsVerdict, ReadBoth}
 use Rattle.autbis.specs.Comparisons.ComparisonFails.{second_not_read, out_of_memory, not_written}
-use Rattle.autbis.specs.Runs.{Request, asks, used}
-use Rattle.autbis.specs.declared.compare.Side.TheVariants.{Run}
-use Rattle.autbis.proofs.Carried.{takes_error}
+use Rattle.autbis.proofs.{Carried.takes_error, compare.run_cmp.Given.Over, compare.run_cmp.Goals.After-equivalent}
 use Rattle.autbis.proofs.Comparing.{OrderLaws, both_read, counted_part, counted_whole, verdict_of}
-use Rattle.autbis.proofs.compare.run_cmp.Given.{Over}
 use Rattle.autbis.proofs.compare.run_cmp.Goals as goal
-use Rattle.autbis.proofs.compare.run_cmp.Goals.{After-equivalent}
 
 pub returns-in_err-first-clause-outcome : goal.returns-in_err-first-clause-outcome
 returns-in_err-first-clause-outcome g c = search rules

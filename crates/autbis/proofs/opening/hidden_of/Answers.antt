@@ -1,8 +1,6 @@
 use Rattle.std.proofs.Common.{◌∙◌, inr, rules}
-use Rattle.autbis.specs.Files.{files_used}
-use Rattle.autbis.specs.Opened.{OnlyCloses}
-use Rattle.autbis.proofs.Ending.{list_unread}
-use Rattle.autbis.proofs.InOrder.{all_closed}
+use Rattle.autbis.specs.{Files.files_used, Opened.OnlyCloses}
+use Rattle.autbis.proofs.{Ending.list_unread, InOrder.all_closed}
 use Rattle.autbis.proofs.opening.hidden_of.Goals as goal
 
 -- The prover could find this proof by itself, so the proof could be left out. With the proof, however, the prover

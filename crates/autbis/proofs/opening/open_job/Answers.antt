@@ -1,11 +1,10 @@
 use Rattle.std.proofs.Common.{◌≡◌, ◌∙◌, inl, option_map, string_bytes, arith}
 use Rattle.std.proofs.lemmas.Grind.{common_steps}
 use Rattle.autbis.specs.Jobs.{hide_of}
-use Rattle.autbis.proofs.Carried.{passes}
+use Rattle.autbis.proofs.{Carried.passes, opening.open_job.Given.Over}
 use Rattle.autbis.proofs.InOrder.{all_then, given_up_after, given_up_closed, refused_then}
-use Rattle.autbis.proofs.opening.open_job.Given.{Over}
-use Rattle.autbis.proofs.opening.open_job.Goals as goal
 use Rattle.autbis.proofs.opening.open_job.Goals.{After-hidden_of, in-Min, in-Min-2}
+use Rattle.autbis.proofs.opening.open_job.Goals as goal
 
 -- A job is the task that the command line asks for, and a hide list is a file with the labels to hide. The hide list
 -- that was read is the hide list that the job names.

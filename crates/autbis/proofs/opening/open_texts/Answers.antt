@@ -1,8 +1,6 @@
 use Rattle.std.proofs.Common.{[], ◌∷◌, string_bytes}
-use Rattle.autbis.specs.Files.{files_used}
-use Rattle.autbis.specs.Opened.{OnlyCloses}
-use Rattle.autbis.proofs.Carried.{passes}
-use Rattle.autbis.proofs.InOrder.{refused_after, refused_closed, refused_then}
+use Rattle.autbis.specs.{Files.files_used, Opened.OnlyCloses}
+use Rattle.autbis.proofs.{Carried.passes, InOrder.refused_after, InOrder.refused_closed, InOrder.refused_then}
 use Rattle.autbis.proofs.opening.open_texts.Goals as goal
 
 pub returns-in_err-first-in-Cmp-clause-order : goal.returns-in_err-first-in-Cmp-clause-order

@@ -1,7 +1,6 @@
 use Rattle.std.proofs.Common.{◌≡◌, ◌∙◌, ℕ, ◌-◌, List, ◌++◌, length, take, drop, ap, sym}
 use Rattle.std.proofs.lemmas.List.{append_assoc, take-append-drop, length-drop}
-use Rattle.std.proofs.KnownBytes.{Appends-trans}
-use Rattle.std.proofs.Math.Seq.{take-length}
+use Rattle.std.proofs.{KnownBytes.Appends-trans, Math.Seq.take-length}
 use Rattle.autbis.proofs.reports.say.Goals as goal
 
 -- Let `front` be the bytes that were written so far, and let `rest` be the bytes that are still to be written. If the

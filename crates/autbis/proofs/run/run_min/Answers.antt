@@ -1,24 +1,18 @@
-use Rattle.std.proofs.Common.{rules}
-use Rattle.std.proofs.Common.{◌≡◌, ◌≤◌, ◌∙◌, ℕ, List, length, Option, Err, ap, ap₂, refl, inl, inr, sym, subst, arith}
+use Rattle.std.proofs.Common.{rules, ◌≡◌, ◌≤◌, ◌∙◌, ℕ, List, length, Option, Err, ap, ap₂, refl, inl, inr, sym, subst}
+use Rattle.std.proofs.Common.{arith}
 use Rattle.std.specs.Io.KnownBytes.{Appends}
-use Rattle.std.proofs.lemmas.List.{length-map}
-use Rattle.std.proofs.lemmas.List.Sorted.{IsPermutation-sym}
-use Rattle.theory.specs.System.{System, Hide}
-use Rattle.theory.specs.Bisimulation.{Bisimilar}
+use Rattle.std.proofs.lemmas.{List.length-map, List.Sorted.IsPermutation-sym}
+use Rattle.theory.specs.{System.System, System.Hide, Bisimulation.Bisimilar, Alike.SameSteps}
 use Rattle.theory.specs.declared.relation.Relation.{Relation}
-use Rattle.theory.specs.Alike.{SameSteps}
 use Rattle.lts.specs.Lts.{transition_of, system_of}
-use Rattle.autfmt.specs.declared.fault.Fault.TheVariants.{Memory}
-use Rattle.autfmt.specs.Stream.{AppendsPrefix}
-use Rattle.autfmt.specs.Texts.{Reads}
+use Rattle.autfmt.specs.{declared.fault.Fault.TheVariants.Memory, Stream.AppendsPrefix, Texts.Reads}
 use Rattle.autfmt.specs.Written.{GainsText, GainsPrefix, IsInWrittenOrder, failures_after, listed}
 use Rattle.autbis.specs.declared.run.Counts.{Counts}
 use Rattle.autbis.specs.Runs.{HasReadInput, IsExhausted, MinimisedText, Minimises, Request, MinimisesTo, Used, asks}
 use Rattle.autbis.specs.Runs.MinimisationFails.{out_of_memory, not_written}
+use Rattle.autbis.proofs.{run.run_min.Given.Over, run.run_min.Goals.After-write}
 use Rattle.autbis.proofs.Carried.{keeps_part, keeps_whole, takes_error}
-use Rattle.autbis.proofs.run.run_min.Given.{Over}
 use Rattle.autbis.proofs.run.run_min.Goals as goal
-use Rattle.autbis.proofs.run.run_min.Goals.{After-write}
 
 pub returns-in_err-system-clause-outcome : goal.returns-in_err-system-clause-outcome
 returns-in_err-system-clause-outcome g c = search rules
