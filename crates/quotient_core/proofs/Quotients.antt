@@ -12,11 +12,10 @@
 -- transition of t is also a quotient transition of s.
 use Rattle.std.proofs.Common.{◌≡◌, ◌≢◌, ◌∙◌, ◌⊎◌, ◌↔◌, ℕ, suc, ◌+◌, ◌<◌, ◌≤◌, Bool, IsTrue, [], ◌∷◌, length}
 use Rattle.std.proofs.Common.{slice_index, replicate, set, refl, sym, ap, subst, inl, inr, arith, rules, true, not}
-use Rattle.std.proofs.Common.{List, map, get_or, Contains, IsPermutation, AllPairs}
-use Rattle.std.proofs.lemmas.{Grind.common_steps, List.Filters.length-filter_both}
+use Rattle.std.proofs.Common.{List, map, get_or, Contains, IsPermutation, AllPairs, length-set}
+use Rattle.std.proofs.lemmas.{Grind.common_steps, Grind.elements, List.Filters.length-filter_both}
 use Rattle.std.proofs.lemmas.Bool.{cases_eq, cases_lt, both_ways, false_from_ne_true}
-use Rattle.std.proofs.lemmas.List.{get_or-set_same, get_or-set_other, get_or-replicate, length-set, length-replicate}
-use Rattle.std.proofs.lemmas.List.{length_push, length-map, get_or-map}
+use Rattle.std.proofs.lemmas.List.{get_or-replicate, length-replicate, length_push, length-map, get_or-map}
 use Rattle.std.proofs.lemmas.List.Elements.{All-contains, Contains-get_or}
 use Rattle.std.proofs.lemmas.List.Sorted.{IsPermutation-map, IsPermutation-sym}
 use Rattle.theory.specs.{System.System, System.IsSystem, System.Reachable, System.Step, Bisimulation.Bisimilar}
@@ -111,10 +110,7 @@ module _ (rel : Relation) (A : System) (block : ℕ → ℕ) (sys : IsSystem A)
         IsTrue reached → slice_index old.by_block.items b ≢ NONE)) ⊎ (IsTrue reached × (number_at block old s ≡ NONE)
         × (b ≡ block s) × (slice_index old.by_block.items b ≡ NONE) × (slice_index new.by_block.items b ≡ classes))
     at b =
-        let within : block s < length old.by_block.items = omega (arith, inside s ls, h.room) in
-        let same = get_or-set_same old.by_block.items (block s) classes 0 within in
-        let other = get_or-set_other old.by_block.items (block s) b classes 0 in
-        grind (arith, takes.classes, cases_eq b (block s), same, other)
+        grind (arith, elements, takes.classes, cases_eq b (block s), h.room, inside s ls)
 
     -- If the state s is the leader of its class, which means that s represents this class, and s is not the first state
     -- of the system, then the class number of s is the next class number that the loop assigns.
@@ -211,11 +207,8 @@ module _ (rel : Relation) (A : System) (block : ℕ → ℕ) (sys : IsSystem A)
           ⊎ ((b ≢ block A.first) × (slice_index n.by_block.items b ≡ NONE))
       at b l =
           let blank = get_or-replicate count b NONE 0 l in
-          let room = inside A.first sys.first in
-          let same = get_or-set_same (replicate count NONE) (block A.first) 0 0
-          (omega (arith, room, length-replicate {A = ℕ})) in
-          let other = get_or-set_other (replicate count NONE) (block A.first) b 0 0 in
-          rw by_block (grind (arith, cases_eq b (block A.first), same, other, blank))
+          let size = length-replicate {A = ℕ} count NONE in
+          rw by_block (grind (arith, elements, cases_eq b (block A.first), blank, size, inside A.first sys.first))
 
 -- A triple (source, label ID, target) denotes the transition with this source, this target, and the label with this ID.
 -- Suppose that the triples of a list are pairwise different, and that the label table contains a label for each of
