@@ -1,8 +1,7 @@
--- The predecessor index stores, for each state, the transitions that lead to this state. As soon as there is a
--- predecessor index, a round usually begins with a search for the states that the round has to process. The search goes
--- backwards along transitions, which it looks up in the index. This file defines which states the search has to find,
--- and what holds while the search is in progress. The place of a transition is its index in the list of all
--- transitions.
+-- The predecessor index stores, for each state, the transitions that lead to this state. Once this index exists, a
+-- round usually begins with a search for the states that the round has to process. The search goes backwards along
+-- transitions, which it looks up in the index. This file defines which states the search has to find, and what holds
+-- while the search is in progress. The place of a transition is its index in the list of all transitions.
 use Rattle.std.specs.Prelude.{◌≡◌, ◌⊎◌, ℕ, ◌≤◌, ◌==◌, Bool, false, IsTrue, List, length, slice_index, slice_index_or}
 use Rattle.std.specs.List.{All, IsDistinct}
 use Rattle.std.specs.Io.{StartsWith}
@@ -78,9 +77,8 @@ pub record HasLookedUp (inert : Bool) (l : Grouped) (of : List ℕ) (t : ℕ) (b
 abbrev pub IsUnmarked : List Bool → Type 0
 IsUnmarked marks = (s : ℕ) → ¬ IsTrue (slice_index_or marks s false)
 
--- The state s is marked if the element of the list `marks` at the index s is true. `AreMarked` holds if both of the
--- following conditions hold. First, the marked states are exactly the states in the list `found`. Second, no state is
--- in `found` twice.
+-- The state s is marked if the element of the list `marks` at the index s is true. `AreMarked` holds if two conditions
+-- hold. First, the marked states are exactly the states in the list `found`. Second, no state is in `found` twice.
 pub record AreMarked (marks : List Bool) (found : List ℕ) : Type 0 where
   pub each : All (λ s. IsTrue (slice_index_or marks s false)) found
   pub all : (s : ℕ) → IsTrue (slice_index_or marks s false) → IsMember found s
