@@ -2,14 +2,11 @@
 -- system, and refinement takes the same number of rounds for both relations.
 use Rattle.std.proofs.Common.{rules, ◌≡◌, ◌∙◌, ℕ, ◌*◌, ◌≤◌, List, [], ◌∷◌, length, Contains, refl, sym, subst}
 use Rattle.std.proofs.lemmas.List.{get_or_default}
-use Rattle.theory.specs.System.{System, Step, Internal, Along, internal}
-use Rattle.theory.specs.Bisimulation.{Pairs}
-use Rattle.theory.specs.declared.relation.Relation.{Relation}
+use Rattle.theory.specs.{System.System, System.Step, System.Internal, System.Along, System.internal, Bisimulation.Pairs}
+use Rattle.theory.specs.{declared.relation.Relation.Relation, Blocks.Inert, Blocks.Signature, Blocks.Turns}
 use Rattle.theory.specs.declared.relation.Relation.TheVariants.{Strong, Branching}
-use Rattle.theory.specs.Blocks.{Inert, Signature, Turns}
 use Rattle.theory.proofs.CallerLemmas.{strong_is_branching, branching_is_strong, SameSignatures, same_signatures_turns}
-use Rattle.lts.specs.Lts.{Grouped, IsLts, system_of}
-use Rattle.lts.specs.Meter.{Counts, Costs}
+use Rattle.lts.specs.{Lts.Grouped, Lts.IsLts, Lts.system_of, Meter.Counts, Meter.Costs}
 use Rattle.lts.proofs.CallerLemmas.{labels_have_ids}
 use Rattle.quotient_core.specs.Numbers.{AreClasses}
 

@@ -3,8 +3,7 @@
 use Rattle.std.proofs.Common.{rules, ◌≡◌, ℕ, ◌+◌, ◌*◌, ◌≤◌, Result, Ok, Err, length, ap, arith}
 use Rattle.std.proofs.lemmas.List.{length-append, length-map}
 use Rattle.theory.specs.Union.{union_of}
-use Rattle.lts.specs.Meter.{Counts, IsFresh, Costs, on_ok}
-use Rattle.lts.specs.Lts.{Grouped, system_of}
+use Rattle.lts.specs.{Meter.Counts, Meter.IsFresh, Meter.Costs, Meter.on_ok, Lts.Grouped, Lts.system_of}
 use Rattle.quotient.specs.Visits.{StaysWithin, quotient_passes, union_passes}
 
 -- A visit is a read of a transition that the meter counts. Suppose that the meter has counted nothing before. Suppose
