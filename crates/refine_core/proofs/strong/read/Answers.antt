@@ -23,9 +23,6 @@ loop-k-preserved g c =
       visits = search rules;
     }
 
-pub returns-then-k-end-clause-pairs : goal.returns-then-k-end-clause-pairs
-returns-then-k-end-clause-pairs g c = search (rules, take_all, c.row-start.ensures.count, c.loop-k.invariant.pairs)
-
 pub returns-clause-pairs : goal.returns-clause-pairs
 returns-clause-pairs g c =
     let i = c.loop-k.invariant in

@@ -40,9 +40,6 @@ loop-k-preserved g c =
       visits = omega (arith, i.visits, c.edge-transition.ensures.visit, price_one_more c.args.visited.now start k from);
     }
 
-pub returns-clause-pairs : goal.returns-clause-pairs
-returns-clause-pairs g c = search (rules, take_all, c.row-start.ensures.count, c.loop-k.invariant.pairs)
-
 pub returns-clause-visits : goal.returns-clause-visits
 returns-clause-visits g c =
     search (rules, row_left, price_between, c.row-start.ensures, c.loop-k-test.false, c.loop-k.invariant.visits)
