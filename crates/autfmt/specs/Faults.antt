@@ -52,16 +52,14 @@ EdgeFault n k line = LineFault (λ x. TransitionLine line x.0 x.1 x.2) (ends_fau
 -- `NextFault most Bad extra found line fault` holds if `fault` is the error of a line that follows `found` other lines.
 -- At most `most` lines are allowed. If the line is allowed, its error is defined by `Bad`: `Bad found line fault`
 -- states that `fault` is the error of the line. If the line is not allowed, its error is `extra found`.
-abbrev pub NextFault :
-    (most : ℕ) → (Bad : ℕ → List ℕ → Fault → Type 0) → (extra : ℕ → Fault) → ℕ → List ℕ → Fault → Type 0
+abbrev pub NextFault : ℕ → (ℕ → List ℕ → Fault → Type 0) → (ℕ → Fault) → ℕ → List ℕ → Fault → Type 0
 NextFault most Bad extra found line fault =
     ((found < most) × Bad found line fault) ⊎ ((most ≤ found) × (fault ≡ extra found))
 
 -- `FaultFrom Next Lack found lines fault` holds if `fault` is the first error of an input in the lines `lines`, which
 -- follow `found` lines without an error. If some of the lines have an error (`Next`), `fault` is the error of the first
 -- such line. If none of the lines has an error, `fault` is the error of an input that ends after these lines (`Lack`).
-abbrev pub FaultFrom :
-    (Next : ℕ → List ℕ → Fault → Type 0) → (Lack : ℕ → Fault → Type 0) → ℕ → List (List ℕ) → Fault → Type 0
+abbrev pub FaultFrom : (ℕ → List ℕ → Fault → Type 0) → (ℕ → Fault → Type 0) → ℕ → List (List ℕ) → Fault → Type 0
 FaultFrom Next Lack found [] fault = Lack found fault
 FaultFrom Next Lack found (line ∷ others) fault =
     Next found line fault ⊎ (((f : Fault) → ¬ Next found line f) × FaultFrom Next Lack (found + 1) others fault)
