@@ -311,15 +311,11 @@ module _ {rel : Relation} {g : Grouped} {n : Numbering} (is : IsNumbering rel g 
                 ap (number_of n) to ∙ number_once rel A lts.system t _ _ (is.number t on) ht in
                 let same : transition_of g.labels (between_numbers n s f) ≡ e =
                 λ i. record { source = source i; label = label i; target = target i } in
-                let shows = (shown_by-contains g n s (between_numbers n s f)).1 (
-                  f,
-                  in_row,
-                  refl,
-                  false_from_ne_true _
-                      (λ gone. stays (subst (IsDropped rel) same ((is.drops (between_numbers n s f)).0 gone))),
-                ) in
-                subst (Contains (map (transition_of g.labels) es)) same (contains_mapped (transition_of g.labels) es _
-                ((shown.exactly (between_numbers n s f)).1 (s, (is.reached s).1 way, shows))),
+                let x = between_numbers n s f in
+                let leaves = false_from_ne_true _ (λ gone. stays (subst (IsDropped rel) same ((is.drops x).0 gone))) in
+                let shows = (shown_by-contains g n s x).1 (f, in_row, refl, leaves) in
+                subst (Contains (map (transition_of g.labels) es)) same (contains_mapped (transition_of g.labels) es x
+                ((shown.exactly x).1 (s, (is.reached s).1 way, shows))),
           );
           once = transitions_differ g.labels es lts.table (λ x c. (each_is x c).0.label) once;
         } in

@@ -21,16 +21,9 @@ more g c = let l = c.args.l.now in
     let range = c.loop-k.auto.k in
     let inside = c.rows_follow.ensures.inside l.places c.args.s _ _ c.loop-k.k c.row-start.ensures (omega arith)
     (omega arith) in
-    rw (
-      inside,
-      map-append,
-      filter-append,
-      c.leaves_out.ensures,
-      c.number-number.ensures,
-      c.number.ensures,
-      c.edge-label.ensures.label,
-      c.edge-label.ensures.target,
-    ) refl
+    let out = c.leaves_out.ensures in
+    let edge = c.edge-label.ensures in
+    rw (inside, map-append, filter-append, out, c.number-number.ensures, c.number.ensures, edge.label, edge.target) refl
 
 pub loop-k-preserved-then-leaves_out : goal.loop-k-preserved-then-leaves_out
 loop-k-preserved-then-leaves_out g c = let range = c.loop-k.auto.k in
