@@ -12,8 +12,8 @@ use Rattle.theory.specs.Bisimulation.{Bisimilar}
 use Rattle.theory.specs.declared.relation.Relation.{Relation}
 use Rattle.theory.specs.Quotient.{HowMany, Leader, IsLeader, Number}
 use Rattle.theory.proofs.Deciding.{same_number, not_so, both, decided_like}
-use Rattle.theory.proofs.Tally.{how_many_like, how_many_unique, one, one_yes, one_no, tally, tally_suc, tallied, tally_is}
-use Rattle.theory.proofs.Tally.{tally_less, tally_reached, tally_one_more, tally_at_most}
+use Rattle.theory.proofs.Tally.{how_many_like, how_many_unique, one, one_yes, one_no, tally, tally_suc, tallied}
+use Rattle.theory.proofs.Tally.{tally_is, tally_less, tally_reached, tally_one_more, tally_at_most}
 use Rattle.theory.proofs.Leaders.{leader_unique, first_reachable, reachable_decided, first_leads, leader_fellow}
 use Rattle.theory.proofs.Leaders.{leader_carried, same_leader_bisimilar, leads_itself, leader_of, is_leader_itself}
 use Rattle.theory.proofs.Leaders.{is_leader_below, is_leader_decided}
