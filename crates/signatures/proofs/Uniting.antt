@@ -86,14 +86,12 @@ module _ {xs ys below above below' above' : List (ℕ × ℕ)} {c : ℕ} (first 
     pub united : Unites (lower ++ upper) xs ys
     united z = either_mixed (halves_has lower upper z) (low z) (high z) (parts_has first z) (parts_has second z)
 
-    pub united_under : IsUnder lower c
-    united_under z d = grind (arith, low z, first.under z, second.under z)
-
-    pub united_over : IsOver upper c
-    united_over z d = grind (arith, high z, first.over z, second.over z)
-
-    united_parted : IsParted (lower ++ upper) c lower upper
-    united_parted = record { joined = refl; under = united_under; over = united_over }
+    pub united_parted : IsParted (lower ++ upper) c lower upper
+    united_parted = record {
+      joined = refl;
+      under = λ z d. grind (arith, low z, first.under z, second.under z);
+      over = λ z d. grind (arith, high z, first.over z, second.over z);
+    }
 
   -- Let c be the number at which the union of the lists xs and ys is divided into two halves (`IsCut`). Then c divides
   -- each of xs and ys into a lower part, which contains the pairs whose numbers (`pair_value`) are less than c, and an
@@ -200,10 +198,11 @@ merged_halves {list} {few} {below} {above} {below'} {above'} {c} first second as
     let two = parts_both second ascending' fit' in
     let low = unites_merged _ below below' refl in
     let high = unites_merged _ above above' refl in
+    let parted = united_parted second first _ _ low high in
     unites_is_merged (merged below below' ++ merged above above') few list
     (halves_ascending _ _ c (merged_ascending _ _ one.0.0 two.0.0) (merged_ascending _ _ one.1.0 two.1.0)
     (merged_fit below below' one.0.1 two.0.1) (merged_fit above above' one.1.1 two.1.1)
-    (united_under second first _ _ low high) (united_over second first _ _ low high))
+    parted.under parted.over)
     ascending' ascending (united second first _ _ low high)
 
 pub if_both : {X E : Type 0} (r : Result X E) (P Q : X → Type 0) → IfOk r P → IfOk r Q → IfOk r (λ x. P x × Q x)
