@@ -1,17 +1,12 @@
 use Rattle.std.proofs.Common.{rules, inl, inr, ap, ap₂, arith, suc, List, [], ◌∷◌, Any, Result, Ok, Err, IfErr, map}
-use Rattle.std.proofs.Common.{refl, subst, sym, ◌≡◌, ◌∙◌, true}
-use Rattle.std.specs.Prelude.{string_bytes}
+use Rattle.std.proofs.Common.{refl, subst, sym, ◌≡◌, ◌∙◌, true, string_bytes}
 use Rattle.std.proofs.lemmas.Result.{IfOk-weaker}
+use Rattle.clap.specs.{declared.error.Error.Error, declared.error.kind.ErrorKind.ErrorKind, Values.kind_of}
 use Rattle.clap.specs.Words.{HasKind, IsAmong, Text, fault_of, is_simple, is_simple_and_free, subcommand_of}
-use Rattle.clap.specs.declared.error.Error.{Error}
-use Rattle.clap.specs.declared.error.kind.ErrorKind.{ErrorKind}
-use Rattle.clap.specs.Values.{kind_of}
-use Rattle.arguments.specs.declared.arguments.Job.{Job}
-use Rattle.arguments.specs.declared.arguments.WordFault.{WordFault}
-use Rattle.arguments.specs.declared.arguments.WordFault.TheVariants as fault
+use Rattle.arguments.specs.{declared.arguments.Job.Job, declared.arguments.WordFault.WordFault}
 use Rattle.arguments.specs.Arguments.{AreTaken, IsFaultIn, IsFaultOf, IsFaultOfAJob, IsFaultOfKind, IsHelp, IsJobIn}
-use Rattle.arguments.specs.Arguments.{IsWholeIn}
-use Rattle.arguments.specs.Arguments.{program_app}
+use Rattle.arguments.specs.Arguments.{IsWholeIn, program_app}
+use Rattle.arguments.specs.declared.arguments.WordFault.TheVariants as fault
 use Rattle.arguments.proofs.arguments.command.Goals as goal
 
 -- The contracts of `clap` hold only for simple descriptions of a command line (`is_simple`). This lemma says that the

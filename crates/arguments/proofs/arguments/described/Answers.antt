@@ -1,7 +1,6 @@
 use Rattle.std.proofs.Common.{ap, ap₂, ◌∙◌, true}
 use Rattle.std.proofs.lemmas.Result.{IfOk-weaker}
-use Rattle.clap.specs.Simple.{app_of_fields}
-use Rattle.clap.specs.Words.{App, with_subcommand}
+use Rattle.clap.specs.{Simple.app_of_fields, Words.App, Words.with_subcommand}
 use Rattle.arguments.proofs.arguments.described.Goals as goal
 
 pub returns : goal.returns

@@ -1,7 +1,5 @@
-use Rattle.std.proofs.Common.{List, Option, Bor, ℕ, Some, None, ◌≡◌, ◌∙◌, ap, codes, refl, sym}
-use Rattle.std.specs.Prelude.{option_map, unwrap_or}
-use Rattle.clap.specs.Words.{first_value, found_of, rows_of}
-use Rattle.clap.specs.declared.parser.matches.Found.{Found}
+use Rattle.std.proofs.Common.{List, Option, Bor, ℕ, Some, None, ◌≡◌, ◌∙◌, ap, codes, refl, sym, option_map, unwrap_or}
+use Rattle.clap.specs.{Words.first_value, Words.found_of, Words.rows_of, declared.parser.matches.Found.Found}
 use Rattle.clap.proofs.WalkLemmas.{first_value-rows}
 use Rattle.arguments.specs.Arguments.{relation_in}
 use Rattle.arguments.proofs.arguments.relation_value.Goals as goal
