@@ -1,5 +1,6 @@
 pub mod Lists
 pub mod Tokens
+pub mod Labels
 pub mod Lines
 pub mod Cutting
 pub mod FirstFaults

@@ -15,8 +15,9 @@ use Rattle.autfmt.specs.Reading.{label_at, header_at, ending_at, transition_at, 
 use Rattle.autfmt.proofs.Tokens.{at_token, Spaced-from, Stops, Stops-blanks, Stops-mark, are_blanks-from}
 use Rattle.autfmt.proofs.Tokens.{Blanks-from_test, Without, Without-literal, Without-blanks, Without-spaced}
 use Rattle.autfmt.proofs.Tokens.{blanks_no_digits, IsToken-number, number_at-takes, number_at-again, Without-number}
-use Rattle.autfmt.proofs.Tokens.{bind_some, blanks_no_words, label_at-takes, label_at-again, IsToken-label}
-use Rattle.autfmt.proofs.Tokens.{IsLabel-spelled, Without-label}
+use Rattle.autfmt.proofs.Tokens.{bind_some}
+use Rattle.autfmt.proofs.Labels.{blanks_no_words, label_at-takes, label_at-again, IsToken-label, IsLabel-spelled}
+use Rattle.autfmt.proofs.Labels.{Without-label}
 
 -- ---- Single bytes
 

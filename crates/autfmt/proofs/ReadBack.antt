@@ -10,7 +10,8 @@ use Rattle.std.proofs.lemmas.List.Elements.{All-nil, All-head, All-tail, All-fro
 use Rattle.std.proofs.lemmas.List.Sorted.{All-permutation, IsPermutation-sym, length_permutation}
 use Rattle.theory.specs.System.{System, Transition, IsSystem, IsAmong, IsLabel}
 use Rattle.autfmt.specs.Bounds.{Bounds, IsWithinFile}
-use Rattle.autfmt.proofs.Tokens.{IsBlank, IsLabel-spelled}
+use Rattle.autfmt.proofs.Tokens.{IsBlank}
+use Rattle.autfmt.proofs.Labels.{IsLabel-spelled}
 use Rattle.autfmt.proofs.Cutting.{lines_of-feed}
 use Rattle.autfmt.proofs.Lines.{Header-one, TransitionLine-one}
 use Rattle.autfmt.proofs.Lists.{AllZip-firsts}

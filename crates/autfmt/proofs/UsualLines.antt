@@ -19,7 +19,8 @@ use Rattle.autfmt.specs.Grammar.{Blanks, quoted}
 use Rattle.autfmt.specs.Reading.{past, plain_at}
 use Rattle.autfmt.specs.Usual.{AreDigitsInFront, BeginsWithNumber, FollowsComma, FollowsEnd, HasMark, BeginsWithLabel}
 use Rattle.autfmt.specs.Usual.{BeginsWithTransition}
-use Rattle.autfmt.proofs.Tokens.{IsBlank, digit-range, quoted-append, plain_at-takes}
+use Rattle.autfmt.proofs.Tokens.{IsBlank, digit-range}
+use Rattle.autfmt.proofs.Labels.{quoted-append, plain_at-takes}
 use Rattle.autfmt.proofs.Lines.{past-takes}
 use Rattle.autfmt.proofs.ReadBack.{none, a_space, spelled_line, spelled_line-short, spaced_line}
 

@@ -1,7 +1,7 @@
 use Rattle.std.proofs.Common.{rules, ◌≡◌, ◌+◌, true, false, take, refl, ◌∙◌}
 use Rattle.std.proofs.lemmas.List.{take_rest}
 use Rattle.autfmt.specs.Reading.{is_label}
-use Rattle.autfmt.proofs.Tokens.{IsLabel-from_test, test-IsLabel, quoted_at-none, quoted_at-found}
+use Rattle.autfmt.proofs.Labels.{IsLabel-from_test, test-IsLabel, quoted_at-none, quoted_at-found}
 use Rattle.autfmt.proofs.token.quoted_at.Goals as goal
 
 pub returns-in_err-end : goal.returns-in_err-end
