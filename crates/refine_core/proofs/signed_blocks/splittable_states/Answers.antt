@@ -1,4 +1,4 @@
-use Rattle.std.proofs.Common.{◌≡◌, sym, inl, inr, arith}
+use Rattle.std.proofs.Common.{inl, inr, arith}
 use Rattle.std.proofs.lemmas.List.{nil_from_length}
 use Rattle.refine_core.proofs.Searching.{live_less, live_more}
 use Rattle.refine_core.proofs.signed_blocks.splittable_states.Goals as goal
@@ -14,8 +14,3 @@ loop-s-preserved-then-is_singleton g c = live_less c.loop-s.invariant
 
 pub loop-s-preserved : goal.loop-s-preserved
 loop-s-preserved g c = live_more c.loop-s.invariant c.in_ok-push.ensures.items
-
-pub returns : goal.returns
-returns g c = let all : c.loop-s.s ≡ c.args.l.now.states =
-    omega (arith, c.loop-s-test.false, c.loop-s.auto, c.states-s-end.ensures.value) in
-    record { ascending = rw (sym all) c.loop-s.invariant.ascending; others = rw (sym all) c.loop-s.invariant.others }

@@ -28,6 +28,3 @@ pub find_active-requires-clause-awaits : goal.find_active-requires-clause-awaits
 find_active-requires-clause-awaits g c =
     rw c.signed_relation-relation.ensures
     (rw (sym c.round.view_is, sym c.take.ensures.value ∙ c.in-Some.is) at c.requires.ready_for_round)
-
-pub returns-clause-begun : goal.returns-clause-begun
-returns-clause-begun g c = rw c.signed_relation-relation.ensures at c.find_active.ensures.begun

@@ -11,7 +11,3 @@ returns-clause-begun g c rel awaits = let round = rw (sym c.round.view_is) at c.
     rw c.with_active-blocks.ensures.same
     (begun_all rel _ _ _ awaits (rw round.same.0 refl) c.in_ok-active.ensures.others
     (rw (round.same.1, round.same.0) awaits.is.index) (λ _. round.discarded))
-
-pub returns-clause-discarded : goal.returns-clause-discarded
-returns-clause-discarded g c = let round = rw (sym c.round.view_is) at c.in_ok-round.ensures in
-    rw c.with_active-blocks.ensures.same round.discarded

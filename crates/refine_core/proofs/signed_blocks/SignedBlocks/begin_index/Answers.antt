@@ -1,13 +1,9 @@
-use Rattle.std.proofs.Common.{rules, ◌∙◌, ap, refl, inl, inr}
+use Rattle.std.proofs.Common.{rules, ◌∙◌, ap, inr}
 use Rattle.lts.proofs.CallerLemmas.{none_visited}
 use Rattle.refine_core.proofs.signed_blocks.SignedBlocks.begin_index.Goals as goal
 
 pub invariant_of-result : goal.invariant_of-result
 invariant_of-result g c = rw c.in_ok-blocks.ensures (c.forget.ensures.states, λ s h. inr (c.forget.ensures.empty s h))
-
-pub returns-then-not-needs_index-clause-begins : goal.returns-then-not-needs_index-clause-begins
-returns-then-not-needs_index-clause-begins g c = rw c.needs_index.ensures
-    (record { blocks = refl; cached = refl; built = inl refl; index = rw c.requires.absent tt })
 
 pub returns-then-not-needs_index-clause-visited : goal.returns-then-not-needs_index-clause-visited
 returns-then-not-needs_index-clause-visited g c =

@@ -1,10 +1,6 @@
-use Rattle.std.proofs.Common.{sym, inr}
+use Rattle.std.proofs.Common.{sym}
 use Rattle.refine_core.proofs.Rounds.{searched}
 use Rattle.refine_core.proofs.signed_blocks.SignedBlocks.find_active.Goals as goal
-
-pub invariant_of-result : goal.invariant_of-result
-invariant_of-result g c =
-    rw c.with_active-blocks.ensures.same (c.forget.ensures.states, λ s h. inr (c.forget.ensures.empty s h))
 
 pub returns-clause-begun : goal.returns-clause-begun
 returns-clause-begun g c = let done = c.in_ok-predecessors.ensures in
