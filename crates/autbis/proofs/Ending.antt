@@ -60,7 +60,8 @@ ends_minimised took ran =
     answered ran.exhausted.1 (listed ran.to.output)
     (of_all _ _ _ _ took ran.exhausted.0 (ran.to, refl, refl)) ran.written
 
-module _ {Out : Type 0} (asked : Request) (law : NotBoth (Reads asked.bounds) (FirstFault asked.bounds)) (output : Used Out) where
+module _ {Out : Type 0} (asked : Request) (law : NotBoth (Reads asked.bounds) (FirstFault asked.bounds))
+    (output : Used Out) where
   -- `EndsRun` states how a run (a minimisation or a comparison) ended. Suppose that no system could be read from an
   -- input, that the error `fault` is the reason, and that nothing was written. Then `EndsRun` holds with the exit
   -- status for `fault`.
@@ -148,34 +149,35 @@ module _ (asked : Request) where
   -- The contract of the opener (an object that opens files by their names) may state the contents of the inputs. If
   -- `bytes` is the correct output for the actual contents, then `bytes` is the correct output for the stated contents
   -- as well.
-  answer_for_revealed : (bytes : List ℕ) (status : ℕ) (revealed contents : Contents) → AreAsRevealed revealed contents →
+  answer_revealed : (bytes : List ℕ) (status : ℕ) (revealed contents : Contents) → AreAsRevealed revealed contents →
       IsAnswer asked contents bytes status → IsAnswer asked revealed bytes status
-  answer_for_revealed bytes status (one revealed) (one text) is answer = of_revealed revealed text (λ given h. h) is answer
-  answer_for_revealed bytes status (two revealed more) (two text other) (is, also) answer =
+  answer_revealed bytes status (one revealed) (one text) is answer = of_revealed revealed text (λ given h. h) is answer
+  answer_revealed bytes status (two revealed more) (two text other) (is, also) answer =
       of_revealed revealed text (λ given. of_revealed more other (λ next h. h) also) is answer
-  answer_for_revealed bytes status (one revealed) (two text other) is answer = absurd is
-  answer_for_revealed bytes status (two revealed more) (one text) is answer = absurd is
+  answer_revealed bytes status (one revealed) (two text other) is answer = absurd is
+  answer_revealed bytes status (two revealed more) (one text) is answer = absurd is
 
   -- `ShowsCountsOf` states that a prefix of the line that `--stats` asks for was written to standard error. The
   -- contract of the opener (an object that opens files by their names) may state the contents of the inputs. If
   -- `ShowsCountsOf` holds for the actual contents, then it holds for the stated contents as well.
-  pub shown_for_revealed : (old new : Option (List ℕ)) (revealed contents : Contents) → AreAsRevealed revealed contents →
+  pub shown_revealed : (old new : Option (List ℕ)) (revealed contents : Contents) → AreAsRevealed revealed contents →
       ShowsCountsOf asked contents old new → ShowsCountsOf asked revealed old new
-  shown_for_revealed old new (one revealed) (one text) is shown = of_revealed revealed text (λ given h. h) is shown
-  shown_for_revealed old new (two revealed more) (two text other) is shown = absurd shown
-  shown_for_revealed old new (one revealed) (two text other) is shown = absurd is
-  shown_for_revealed old new (two revealed more) (one text) is shown = absurd is
+  shown_revealed old new (one revealed) (one text) is shown = of_revealed revealed text (λ given h. h) is shown
+  shown_revealed old new (two revealed more) (two text other) is shown = absurd shown
+  shown_revealed old new (one revealed) (two text other) is shown = absurd is
+  shown_revealed old new (two revealed more) (one text) is shown = absurd is
 
   -- The contract of the opener (an object that opens files by their names) may state the contents of the inputs. If the
   -- actual contents of an input are incorrect, then the stated contents are incorrect as well.
-  fault_in_revealed : (revealed contents : Contents) → AreAsRevealed revealed contents → HasFaultyText asked.bounds contents →
-      HasFaultyText asked.bounds revealed
-  fault_in_revealed (one revealed) (one text) is wrong = revealed_then revealed text _ is wrong
-  fault_in_revealed (two revealed more) (two text other) (is, also) (inl wrong) = inl (revealed_then revealed text _ is wrong)
-  fault_in_revealed (two revealed more) (two text other) (is, also) (inr (reads, wrong)) =
+  fault_revealed : (revealed contents : Contents) → AreAsRevealed revealed contents →
+      HasFaultyText asked.bounds contents → HasFaultyText asked.bounds revealed
+  fault_revealed (one revealed) (one text) is wrong = revealed_then revealed text _ is wrong
+  fault_revealed (two revealed more) (two text other) (is, also) (inl wrong) = inl
+      (revealed_then revealed text _ is wrong)
+  fault_revealed (two revealed more) (two text other) (is, also) (inr (reads, wrong)) =
       inr (revealed_then revealed text _ is reads, revealed_then more other _ also wrong)
-  fault_in_revealed (one revealed) (two text other) is wrong = absurd is
-  fault_in_revealed (two revealed more) (one text) is wrong = absurd is
+  fault_revealed (one revealed) (two text other) is wrong = absurd is
+  fault_revealed (two revealed more) (one text) is wrong = absurd is
 
 -- `AreAsRevealed` holds if each input has the contents that a contract states for it, if any. This lemma says that this
 -- is the case if the stated contents are taken as the actual contents.
@@ -187,18 +189,18 @@ reveals_itself (Some bytes) = refl
 -- files by their names) may state the contents of the inputs. If `EndsRun` holds for the actual contents of the inputs,
 -- then `EndsRun` holds for the stated contents as well. In addition, the conditions `Sound` (no read has failed) and
 -- `Lost` (a read has failed) may be replaced by conditions that follow from them.
-pub ends_for_revealed : {Out : Type 0} {asked : Request} {revealed contents : Contents} {Sound Lost Sound' Lost' : Type 0}
+pub ends_revealed : {Out : Type 0} {asked : Request} {revealed contents : Contents} {Sound Lost Sound' Lost' : Type 0}
     {output : Used Out} {status : ℕ} → AreAsRevealed revealed contents →
     (Sound → Sound') → (Lost → Lost') → EndsRun asked contents Sound Lost output status →
     EndsRun asked revealed Sound' Lost' output status
-ends_for_revealed {asked = asked} {revealed = revealed} is sound loses (answered zero bytes answer gains) =
-    answered (sound zero) bytes (answer_for_revealed asked _ _ revealed _ is answer) gains
-ends_for_revealed {asked = asked} {revealed = revealed} is sound loses (faulty zero exit wrong kept) =
-    faulty (sound zero) exit (fault_in_revealed asked revealed _ is wrong) kept
-ends_for_revealed is sound loses (no_memory zero exit kept) = no_memory (sound zero) exit kept
-ends_for_revealed {asked = asked} {revealed = revealed} is sound loses (cut_short zero exit bytes wanted answer broken) =
-    cut_short (sound zero) exit bytes wanted (answer_for_revealed asked _ _ revealed _ is answer) broken
-ends_for_revealed is sound loses (lost failed exit kept) = lost (loses failed) exit kept
+ends_revealed {asked = asked} {revealed = revealed} is sound loses (answered zero bytes answer gains) =
+    answered (sound zero) bytes (answer_revealed asked _ _ revealed _ is answer) gains
+ends_revealed {asked = asked} {revealed = revealed} is sound loses (faulty zero exit wrong kept) =
+    faulty (sound zero) exit (fault_revealed asked revealed _ is wrong) kept
+ends_revealed is sound loses (no_memory zero exit kept) = no_memory (sound zero) exit kept
+ends_revealed {asked = asked} {revealed = revealed} is sound loses (cut_short zero exit bytes wanted answer broken) =
+    cut_short (sound zero) exit bytes wanted (answer_revealed asked _ _ revealed _ is answer) broken
+ends_revealed is sound loses (lost failed exit kept) = lost (loses failed) exit kept
 
 -- If the error `fault` is an error in the contents of a hide list (a file with the labels to hide), then the exit
 -- status for `fault` is 2.
@@ -219,7 +221,8 @@ pub list_unread : {F : Type 0} (files : FilesUsed F) (name : Name) (revealed : O
 list_unread files name revealed {given} {rest} {failures} {fault} law is took none loses
     (list_fault sound of_list first) =
     list_faulty (none sound)
-    (revealed_then (files.holds files.old name) revealed _ is (revealed_is_faulty law given revealed rest fault took first))
+    (revealed_then (files.holds files.old name) revealed _ is
+    (revealed_is_faulty law given revealed rest fault took first))
     (list_status fault of_list)
 list_unread files name revealed law is took none loses (list_lost failed device unknown) =
     list_failed (λ unnamed. none-some _ (sym unnamed)) (loses failed) (ap status_of device)

@@ -11,8 +11,8 @@ use Rattle.autbis.specs.Jobs.HideListFails.{list_failed, no_memory, list_faulty}
 -- Suppose that a file was opened, and that the property P holds for the bytes that can be read from the open file. The
 -- contract of the opener (an object that opens files by their names) may state the contents of the file. In this case,
 -- P holds for the stated contents.
-pub revealed_then : (revealed rest : Option (List ℕ)) (P : List ℕ → Type 0) → IfSome revealed (λ text. rest ≡ Some text) →
-    IfSome rest P → IfSome revealed P
+pub revealed_then : (revealed rest : Option (List ℕ)) (P : List ℕ → Type 0) →
+    IfSome revealed (λ text. rest ≡ Some text) → IfSome rest P → IfSome revealed P
 revealed_then revealed rest P is h = IfSome_then revealed is (λ text same. rw same at h)
 
 -- Suppose that an opener (an object that opens files by their names) was asked to open the files `first`, and then to

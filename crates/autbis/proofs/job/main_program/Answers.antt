@@ -1,7 +1,7 @@
 use Rattle.std.proofs.Common.{◌∙◌, inl, inr, refl}
 use Rattle.autbis.specs.Jobs.JobEnds.{given_up, ran}
 use Rattle.autbis.specs.Programs.AnswersWords.{job, no_job}
-use Rattle.autbis.proofs.Ending.{ends_for_revealed, shown_for_revealed}
+use Rattle.autbis.proofs.Ending.{ends_revealed, shown_revealed}
 use Rattle.autbis.proofs.InOrder.{all_closed, given_up_fails}
 use Rattle.autbis.proofs.job.main_program.Goals as goal
 
@@ -20,7 +20,7 @@ returns-in-Ok-open_job-clause-answer g c =
       hidden = _;
       hides = is.hidden;
       ends =
-          ends_for_revealed (is.texts.contents _) (λ sound. (sound.0, closed.sound sound.1 ∙ is.none_lost))
+          ends_revealed (is.texts.contents _) (λ sound. (sound.0, closed.sound sound.1 ∙ is.none_lost))
           (λ lost. elim lost [ inl input ↦ inl input | inr (are, one) ↦ inr (named.0 are, closed.lost one) ])
           ran_to.ends;
     }))
@@ -37,7 +37,7 @@ returns-in-Ok-open_job-clause-silent g c low =
         stats = stats;
         hidden = _;
         hides = is.hidden;
-        shown = shown_for_revealed _ _ _ _ _ (is.texts.contents _) (rw same at shown);
+        shown = shown_revealed _ _ _ _ _ (is.texts.contents _) (rw same at shown);
       })
     ]
 

@@ -1,21 +1,21 @@
 use Rattle.std.proofs.Common.{◌≡◌, ◌∙◌, ◌⊎◌, Bool, IsTrue, ap, false, inl, inr, refl, true}
-use Rattle.autbis.proofs.Ending.{ends_for_revealed, reveals_itself}
+use Rattle.autbis.proofs.Ending.{ends_revealed, reveals_itself}
 use Rattle.autbis.proofs.job.run_opened.Goals as goal
 
 pub returns-in-Input-clause-ends : goal.returns-in-Input-clause-ends
 returns-in-Input-clause-ends g c = rw (c.in-Input.is, ← c.relation_of-rel.ensures, ← c.file.ensures)
-    (ends_for_revealed (reveals_itself _) (λ sound. (sound, tt)) inl c.min_program.ensures.ends)
+    (ends_revealed (reveals_itself _) (λ sound. (sound, tt)) inl c.min_program.ensures.ends)
 
 pub returns-in-One-clause-ends : goal.returns-in-One-clause-ends
 returns-in-One-clause-ends g c = rw (c.in-One.is, ← c.relation_of-rel.ensures, ← c.file.ensures)
-    (ends_for_revealed (reveals_itself _) (λ sound. (c.requires.input, sound)) (λ failed. inr (tt, failed))
+    (ends_revealed (reveals_itself _) (λ sound. (c.requires.input, sound)) (λ failed. inr (tt, failed))
     c.min_program-in-One.ensures.ends)
 
 pub returns-in-Two-clause-ends : goal.returns-in-Two-clause-ends
 returns-in-Two-clause-ends g c =
     let sound = rw c.in-Two.is at c.requires.texts in
     rw (c.in-Two.is, ← c.relation_of-rel.ensures, ← c.file.ensures)
-    (ends_for_revealed (reveals_itself _, reveals_itself _) (λ kept. (c.requires.input, kept))
+    (ends_revealed (reveals_itself _, reveals_itself _) (λ kept. (c.requires.input, kept))
     (λ failed. inr (
       tt,
       elim failed [
