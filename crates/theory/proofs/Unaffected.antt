@@ -140,8 +140,8 @@ module _ (A : System) (sys : IsSystem A) (blocks : ℕ → ℕ) (first_new : ℕ
         absurd (none (e, has, (rw (label, at) can, omega (arith, at, l))))
   ]
 
-  -- Let s be a state. For branching bisimilarity, suppose that the block ID of s is old. Then s satisfies `active`, or no
-  -- block ID in the signature of s is new (`MentionsOnlyOld`).
+  -- Let s be a state. For branching bisimilarity, suppose that the block ID of s is old. Then s satisfies `active`, or
+  -- no block ID in the signature of s is new (`MentionsOnlyOld`).
   found_or_old : (rel : Relation) → AreEnoughToProcess rel A blocks first_new active → (s : ℕ)
       → (rel ≡ Branching → blocks s < first_new) → active s ⊎ MentionsOnlyOld rel A blocks first_new s
   found_or_old rel looks s old =
