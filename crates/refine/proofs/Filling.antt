@@ -18,6 +18,6 @@ pub split_alike : (interned signatures : List (List (ℕ × ℕ))) (signature_id
 split_alike interned signed signature_ids ns p old new q count more view are each given size is split alike s t h k =
     let same = rw given at split in
     let equal = are.different (slice_index signature_ids s) (slice_index signature_ids t) in
-    let sizes = ap length view in
+    let long = ap length view in
     rw (← view, ← is)
-    (grind (arith, length-map, get_or-map, alike s t, same.alike s t, equal, each s 0, each t 0, same.states, is, sizes))
+    (grind (arith, length-map, get_or-map, alike s t, same.alike s t, equal, each s 0, each t 0, same.states, is, long))
