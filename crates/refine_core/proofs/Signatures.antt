@@ -266,8 +266,7 @@ strong_signs l lts r ready signatures signature_ids are have put = record {
       )) (put s one)));
   cached = λ is. absurd cc;
   first = λ all _ s one. elim (put s one) [
-    | inl (nil, still) ↦
-        rw nil (none_listed l _ (λ a b can. absurd (omega (arith, still.1 a b can, all refl))))
+    | inl (nil, still) ↦ rw nil (none_listed l _ (λ a b can. absurd (omega (arith, still.1 a b can, all refl))))
     | inr changed ↦ changed.1
   ];
 }
@@ -357,9 +356,6 @@ module _ (l : Grouped) (r : Signed) (ready : IsReadyToSign Branching l r) where
     cached_now : (s : ℕ) → s < l.states → IsSingleton of s ⊎ IsSignature Branching l of s (list_of signatures cached s)
     cached_now s h = grind (arith, common_steps, signs.still s, active_or_cached s h, signs.signed s, same_list s h)
 
-    have : HaveSignatures of active signatures signature_ids
-    have = record { each = signs.ids; states = size; none = none }
-
     -- After the round has computed the signatures of the active states, the data of the round is correct
     -- (`SignsRound`).
     pub branching_signs : IsLts l → SignsRound Branching l r
@@ -367,8 +363,9 @@ module _ (l : Grouped) (r : Signed) (ready : IsReadyToSign Branching l r) where
     branching_signs lts = record {
       blocks = refl;
       index = refl;
-      have = have;
-      separates = separates Branching l lts r ready signatures signature_ids are have
+      have = record { each = signs.ids; states = size; none = none };
+      separates = separates Branching l lts r ready signatures signature_ids are
+          (record { each = signs.ids; states = size; none = none })
           (λ s h one. ⊎_map (λ alone. alone) (split_id lts s h one) ((ready.cached refl).each s h));
       cached = λ branching. record { states = signs.states; signature_ids = signs.each; each = cached_now };
       first = λ _ empty s one. grind (arith, common_steps, signs.changed s one, signs.signed s one, empty refl s);
