@@ -1,24 +1,17 @@
 -- The lemmas in this file are about the lines of a text (`lines_of`). Most of them relate the lines of a text that
--- consists of two parts to the lines of its parts. The last lemmas are about the line splitter (`Cutter`), which divides
--- the input into lines, and puts a line together from several chunks of bytes.
+-- consists of two parts to the lines of its parts. The last lemmas are about the line splitter (`Cutter`), which
+-- divides the input into lines, and puts a line together from several chunks of bytes.
 use Rattle.std.proofs.Common.{◌≡◌, ◌≢◌, ℕ, ◌≤◌, List, [], ◌∷◌, ◌++◌, length, refl, sym, ◌∙◌, ap, inl, inr, arith, ◌<◌}
 use Rattle.std.proofs.Common.{false, rules, ◌+◌, ◌-◌, Bool, true, suc, take, drop, Option}
-use Rattle.std.specs.Prelude.{◌==◌}
-use Rattle.std.specs.List.{onto_first, slice_range}
-use Rattle.std.proofs.lemmas.Bool.{cases_eq, cond_both, ne_eqb}
+use Rattle.std.specs.{Prelude.◌==◌, List.onto_first, List.slice_range, Io.KnownBytes.Consumes}
+use Rattle.std.proofs.lemmas.{Bool.cases_eq, Bool.cond_both, Bool.ne_eqb, Grind.common_steps, Slice.between_is}
 use Rattle.std.proofs.lemmas.List.{append-nil, length-append, append_assoc, length-drop, length-take, length-take-le}
 use Rattle.std.proofs.lemmas.List.{take-append-drop, take-take, drop-take, drop-drop, drop_at}
 use Rattle.std.proofs.lemmas.List.Elements.{All-head, All-tail, All-append}
-use Rattle.std.proofs.lemmas.Grind.{common_steps}
-use Rattle.std.specs.Io.KnownBytes.{Consumes}
 use Rattle.std.proofs.KnownBytes.{Consumes-trans}
-use Rattle.std.proofs.lemmas.Slice.{between_is}
-use Rattle.autfmt.specs.Texts.{lines_of, Lines, IsOneLine}
-use Rattle.autfmt.specs.Cutter.{Cutting, HasCut, CutsLine, BeginsTooLong, IsPart}
-use Rattle.autfmt.specs.declared.line.TheConstants.{LONGEST_LINE}
-use Rattle.autfmt.specs.declared.cutter.Found.TheVariants.{Feed}
-use Rattle.autfmt.specs.Gathering.{FoundIn}
-use Rattle.autfmt.specs.declared.cutter.TheConstants.{CHUNK}
+use Rattle.autfmt.specs.{Texts.lines_of, Texts.Lines, Texts.IsOneLine, Cutter.Cutting, Cutter.HasCut, Cutter.CutsLine}
+use Rattle.autfmt.specs.{Cutter.BeginsTooLong, Cutter.IsPart, declared.line.TheConstants.LONGEST_LINE}
+use Rattle.autfmt.specs.{declared.cutter.Found.TheVariants.Feed, Gathering.FoundIn, declared.cutter.TheConstants.CHUNK}
 
 -- If a byte that is not a line feed is put in front of a text, then this byte is put in front of the first line of the
 -- text. If the text is empty, the result is one line, which consists of this byte.
@@ -49,7 +42,8 @@ lines_of-onto : (front more : List ℕ) → IsOneLine front → lines_of (front 
 lines_of-onto [] more one = refl
 lines_of-onto (b ∷ front) more one =
     lines_of-byte b (front ++ more) (All-head (λ b. b ≢ 10) b front one)
-    ∙ ap (onto_first b) (lines_of-onto front more (All-tail (λ b. b ≢ 10) b front one)) ∙ onto-more b front (lines_of more)
+    ∙ ap (onto_first b) (lines_of-onto front more (All-tail (λ b. b ≢ 10) b front one))
+        ∙ onto-more b front (lines_of more)
 
 -- Suppose that a text begins with at least one byte, and that the bytes at its beginning contain no line feed. Then the
 -- first line of the text begins with these bytes.
@@ -83,8 +77,8 @@ some_line (b ∷ bs) some =
     cond_both (b == 10) ([] ∷ lines_of bs) (onto_first b (lines_of bs)) HasFirst (λ _. ([], lines_of bs, refl))
     (λ _. onto_first-first b (lines_of bs))
 
--- If bytes are appended to a text that ends with a line feed, then the lines of these bytes are appended to the lines of
--- the text.
+-- If bytes are appended to a text that ends with a line feed, then the lines of these bytes are appended to the lines
+-- of the text.
 pub ended_go_on : (front more : List ℕ) →
     lines_of (front ++ 10 ∷ more) ≡ lines_of (front ++ 10 ∷ []) ++ lines_of more
 ended_go_on [] more = refl
@@ -170,7 +164,8 @@ module _ (given got : List ℕ) (lines : List (List ℕ)) (old : Cutting) (cut :
       Divides (given ++ got) (lines ++ line ∷ []) rest
   Divides-line line rest open_at one is more =
       HasCut-part open_at more
-      ∙ rw (is, append_assoc, lines_of-feed line (rest ++ more) one) (sym (append_assoc lines (line ∷ []) (lines_of (rest
+      ∙ rw (is, append_assoc, lines_of-feed line (rest ++ more) one)
+          (sym (append_assoc lines (line ∷ []) (lines_of (rest
       ++ more))))
 
   -- Suppose that the line splitter has divided the bytes `given` into the lines `lines`, reads the bytes `got`, and

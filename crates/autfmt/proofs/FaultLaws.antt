@@ -4,29 +4,24 @@
 -- proves for which bytes the first error is known in this way, and for which bytes it still depends on the bytes that
 -- follow.
 use Rattle.std.proofs.Common.{◌≡◌, ◌⊎◌, ⊎_elim, ℕ, ◌+◌, ◌<◌, ◌≤◌, List, [], ◌∷◌, ◌++◌, length, refl, sym, ◌∙◌, subst}
-use Rattle.std.proofs.Common.{inl, inr, arith, All, rules}
+use Rattle.std.proofs.Common.{inl, inr, arith, All, rules, append_assoc, length-append}
 use Rattle.std.specs.List.{AllZip}
 use Rattle.std.proofs.lemmas.Bool.{cases_lt}
-use Rattle.std.proofs.lemmas.List.{append_assoc, length-append}
 use Rattle.std.proofs.lemmas.List.Elements.{All-nil, All-cons, All-head, All-tail}
 use Rattle.theory.specs.System.{System, Transition}
-use Rattle.autfmt.specs.declared.fault.Fault.{Fault}
+use Rattle.autfmt.specs.{declared.fault.Fault.Fault, Bounds.Bounds, Grammar.TransitionLine, Cutter.IsPart}
 use Rattle.autfmt.specs.declared.fault.Fault.TheVariants.{BadHeader, LineTooLong, ExtraText, MissingEdges}
-use Rattle.autfmt.specs.Bounds.{Bounds}
-use Rattle.autfmt.specs.Grammar.{TransitionLine}
 use Rattle.autfmt.specs.Texts.{lines_of, Lines, IsShort, GoodHeader, SpellsTransition, SpellsAmong, Reads}
-use Rattle.autfmt.specs.Cutter.{IsPart}
 use Rattle.autfmt.specs.Faults.{LineFault, HeaderFault, EdgeFault, EndFault, EdgesFault, LinesFault, FirstFault}
 use Rattle.autfmt.specs.Faults.{JudgedFault}
+use Rattle.autfmt.specs.declared.line.TheConstants.{LONGEST_LINE}
+use Rattle.autfmt.proofs.{Lines.one_transition, Lists.AllZip-firsts, Lists.AllZip-unique}
 use Rattle.autfmt.proofs.Cutting.{Divides, ended_go_on, Grows, line_grows, some_line}
-use Rattle.autfmt.proofs.Lines.{one_transition}
-use Rattle.autfmt.proofs.Lists.{AllZip-firsts, AllZip-unique}
 use Rattle.autfmt.proofs.FirstFaults.{AreJudged, unique, behind, no_fault, lines_judged, no_long, stays_before, stays}
 use Rattle.autfmt.proofs.FirstFaults.{not_known}
 use Rattle.autfmt.proofs.LineFaults.{HeaderFault-unique, GoodHeader-no_fault, GoodHeader-unique, header_judged}
 use Rattle.autfmt.proofs.LineFaults.{HeaderFault-long, EdgeFault-unique, GoodEdge-no_fault, edge_judged, same_header}
 use Rattle.autfmt.proofs.LineFaults.{LineFault-long}
-use Rattle.autfmt.specs.declared.line.TheConstants.{LONGEST_LINE}
 
 -- Each line after the header of an input is correct or has exactly one error. The header declares m transitions and n
 -- states.

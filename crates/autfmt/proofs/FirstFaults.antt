@@ -1,18 +1,14 @@
 -- The lemmas in this file are about the first error of an input (`FaultFrom`), which is a system or a hide list (a file
 -- with the labels to hide). In these lemmas, the relation `Good` relates a correct line to the transition or the label
 -- on this line.
-use Rattle.std.proofs.Common.{◌≡◌, ◌≢◌, ◌⊎◌, ◌↔◌, ⊎_elim, ℕ, ◌+◌, ◌<◌, ◌≤◌, List, [], ◌∷◌, ◌++◌, length, replicate}
-use Rattle.std.proofs.Common.{All, refl, sym, ◌∙◌, ap, subst, inl, inr, arith}
+use Rattle.std.proofs.Common.{◌≡◌, ◌≢◌, ◌⊎◌, ◌↔◌, ⊎_elim, ℕ, ◌+◌, ◌<◌, ◌≤◌, List, [], ◌∷◌, ◌++◌, length, replicate, All}
+use Rattle.std.proofs.Common.{refl, sym, ◌∙◌, ap, subst, inl, inr, arith}
 use Rattle.std.specs.List.{AllZip}
-use Rattle.std.proofs.lemmas.Bool.{cases_lt}
-use Rattle.std.proofs.lemmas.List.{append-nil, length-append, length-replicate}
+use Rattle.std.proofs.lemmas.{Bool.cases_lt, List.append-nil, List.length-append, List.length-replicate}
 use Rattle.std.proofs.lemmas.List.Elements.{All-nil, All-cons, All-head, All-tail, All-append, All-replicate}
-use Rattle.autfmt.specs.declared.fault.Fault.{Fault}
+use Rattle.autfmt.specs.{declared.fault.Fault.Fault, declared.line.TheConstants.LONGEST_LINE, Texts.lines_of}
+use Rattle.autfmt.specs.{Texts.IsOneLine, Texts.IsShort, Faults.NextFault, Faults.FaultFrom, Cutter.IsPart}
 use Rattle.autfmt.specs.declared.fault.Fault.TheVariants.{LineTooLong}
-use Rattle.autfmt.specs.declared.line.TheConstants.{LONGEST_LINE}
-use Rattle.autfmt.specs.Texts.{lines_of, IsOneLine, IsShort}
-use Rattle.autfmt.specs.Faults.{NextFault, FaultFrom}
-use Rattle.autfmt.specs.Cutter.{IsPart}
 use Rattle.autfmt.proofs.Cutting.{only_line, Divides, Divides-end, Grows}
 
 -- Suppose that an input can be read or has an error, and that it has no error if it can be read. Then the input can be

@@ -1,25 +1,19 @@
 -- Every text can be read as a hide list (a file with one label to hide on each line) in exactly one way, or has exactly
 -- one first error, which is the error that is reported. No text can be read as a hide list and has a first error.
 use Rattle.std.proofs.Common.{◌≡◌, ◌⊎◌, ⊎_elim, ℕ, None, ◌+◌, ◌<◌, ◌≤◌, List, [], ◌∷◌, ◌++◌, length, refl, sym, ◌∙◌}
-use Rattle.std.proofs.Common.{subst, inl, inr, arith}
+use Rattle.std.proofs.Common.{subst, inl, inr, arith, append_assoc}
 use Rattle.std.specs.List.{AllZip}
-use Rattle.std.proofs.lemmas.List.{append_assoc}
 use Rattle.std.proofs.lemmas.Slice.Zip.{AllZip-long}
-use Rattle.autfmt.specs.declared.fault.Fault.{Fault}
+use Rattle.autfmt.specs.{declared.fault.Fault.Fault, Grammar.HideLine, Texts.lines_of, Texts.IsShort, Cutter.IsPart}
+use Rattle.autfmt.specs.{Faults.LineFault.too_long, declared.line.TheConstants.LONGEST_LINE}
 use Rattle.autfmt.specs.declared.fault.Fault.TheVariants.{LineTooLong, BadHide, TooManyHidden}
-use Rattle.autfmt.specs.Grammar.{HideLine}
-use Rattle.autfmt.specs.Texts.{lines_of, IsShort}
-use Rattle.autfmt.specs.Cutter.{IsPart}
 use Rattle.autfmt.specs.HideLists.{Hides, HideReads, HideFault, HidesFault, FirstHideFault, JudgedHideFault}
-use Rattle.autfmt.proofs.Lists.{AllZip-firsts, AllZip-unique}
+use Rattle.autfmt.specs.declared.limits.TheConstants.{MOST_LINES}
+use Rattle.autfmt.proofs.{Lists.AllZip-firsts, Lists.AllZip-unique, Lines.one_hide_line, Lines.hide_line_reader}
 use Rattle.autfmt.proofs.FirstFaults.{AreJudged, unique, behind, no_fault, lines_judged, no_long, stays_before, stays}
 use Rattle.autfmt.proofs.FirstFaults.{not_known}
 use Rattle.autfmt.proofs.Cutting.{Divides, ended_go_on, line_grows}
-use Rattle.autfmt.specs.Faults.LineFault.{too_long}
 use Rattle.autfmt.proofs.LineFaults.{LineFault-unique, LineFault-not_good, LineFault-long, line_judged}
-use Rattle.autfmt.proofs.Lines.{one_hide_line, hide_line_reader}
-use Rattle.autfmt.specs.declared.line.TheConstants.{LONGEST_LINE}
-use Rattle.autfmt.specs.declared.limits.TheConstants.{MOST_LINES}
 
 -- Each line of a hide list (a file with one label to hide on each line) is correct or has exactly one error.
 pub hides : AreJudged Hides (λ found. HideFault (found + 1)) (λ found. TooManyHidden) (λ found fault. ⊥)

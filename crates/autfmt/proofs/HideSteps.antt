@@ -1,27 +1,21 @@
 -- The lemmas in this file are about the steps in which a hide list (the labels to hide, one on each line) is read. The
 -- lemmas describe the state of the reader after each step, and justify each error that the reader returns.
 use Rattle.std.proofs.Common.{◌≡◌, ◌⊎◌, ◌↔◌, ⊎_elim, ℕ, ◌+◌, ◌<◌, ◌≤◌, true, false, List, [], ◌∷◌, ◌++◌, length, Option}
-use Rattle.std.proofs.Common.{Some, Contains, refl, sym, ◌∙◌, inl, inr, arith}
+use Rattle.std.proofs.Common.{Some, Contains, refl, sym, ◌∙◌, inl, inr, arith, append_assoc}
 use Rattle.std.proofs.lemmas.Slice.Zip.{AllZip-long, all_zipped_more}
-use Rattle.std.proofs.lemmas.List.{append_assoc}
 use Rattle.std.proofs.lemmas.List.Elements.{All-nil, Contains-append_left, Contains-push, Contains-push_cases}
 use Rattle.std.specs.Io.KnownBytes.{IsAtEnd}
 use Rattle.lts.specs.Labels.{Interns}
-use Rattle.autfmt.specs.declared.fault.Fault.{Fault}
+use Rattle.autfmt.specs.{declared.fault.Fault.Fault, Texts.lines_of, Texts.Lines, Faults.LineFault, HideLists.Hides}
+use Rattle.autfmt.specs.{HideLists.HideFault, HideLists.FirstHideFault, Cutter.Cutting, Cutter.CutsLine}
+use Rattle.autfmt.specs.{Cutter.BeginsTooLong, Cutter.IsPart, HideReadSoFar.HideReadSoFar, HideOutcomes.HideRefuses}
 use Rattle.autfmt.specs.declared.fault.Fault.TheVariants.{LineTooLong, TooManyHidden, Device}
-use Rattle.autfmt.specs.Texts.{lines_of, Lines}
-use Rattle.autfmt.specs.Faults.{LineFault}
-use Rattle.autfmt.specs.HideLists.{Hides, HideFault, FirstHideFault}
-use Rattle.autfmt.specs.Cutter.{Cutting, CutsLine, BeginsTooLong, IsPart}
 use Rattle.autfmt.specs.HideReaders.{IsHideFault, SameLabels, HidesAs}
-use Rattle.autfmt.specs.HideReadSoFar.{HideReadSoFar}
-use Rattle.autfmt.specs.HideOutcomes.{HideRefuses}
 use Rattle.autfmt.specs.HideOutcomes.HideRefuses.{failed_source, faulty_text}
-use Rattle.autfmt.proofs.FirstFaults.{Next, behind}
-use Rattle.autfmt.proofs.HideLaws.{hides, no_judged_hide_fault}
+use Rattle.autfmt.specs.declared.limits.TheConstants.{MOST_LINES}
+use Rattle.autfmt.proofs.{FirstFaults.Next, FirstFaults.behind, HideLaws.hides, HideLaws.no_judged_hide_fault}
 use Rattle.autfmt.proofs.Cutting.{HasCut-line, HasCut-too_long, HasCut-end, HasCut-more, HasCut-part}
 use Rattle.autfmt.proofs.ReaderSteps.{if_told, none_to_come, fresh}
-use Rattle.autfmt.specs.declared.limits.TheConstants.{MOST_LINES}
 
 -- If the label a is appended to the list H, then the result contains exactly the labels of H and the label a.
 pushed : (H : List (List ℕ)) (a b : List ℕ) → Contains (H ++ a ∷ []) b ↔ (Contains H b ⊎ (b ≡ a))

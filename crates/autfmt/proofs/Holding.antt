@@ -2,21 +2,15 @@
 -- the transitions that the triples denote, and about hiding the labels of a hide list, which contains the labels to
 -- hide.
 use Rattle.std.proofs.Common.{◌≡◌, ◌↔◌, ℕ, List, [], map, map-id, Contains, arith, ◌<◌, ◌∷◌, ◌++◌, length, sym, inl}
-use Rattle.std.proofs.Common.{inr, All}
-use Rattle.std.specs.Bool.{Decides}
+use Rattle.std.proofs.Common.{inr, All, Decides, bytes_eq}
 use Rattle.std.specs.List.{list_any}
-use Rattle.std.specs.Str.{bytes_eq}
-use Rattle.std.proofs.lemmas.Bool.{cases_Bool, cond-true}
-use Rattle.std.proofs.lemmas.Slice.Eq.{bytes_eq-Decides}
-use Rattle.std.proofs.lemmas.Map.Made.{is_member-Decides}
+use Rattle.std.proofs.lemmas.{Bool.cases_Bool, Bool.cond-true, Slice.Eq.bytes_eq-Decides, Map.Made.is_member-Decides}
 use Rattle.std.proofs.lemmas.List.Elements.{Contains-get_or, All-push, Contains-append_left, Contains-push}
 use Rattle.std.proofs.lemmas.List.{length-map, map_push}
-use Rattle.lts.specs.Labels.{IsLabelId}
+use Rattle.lts.specs.{Labels.IsLabelId, Lts.Triple, Lts.IsTriple, Lts.label_of}
 use Rattle.theory.specs.System.{System, internal, hidden_label, Hide, Transition, IsAmong}
-use Rattle.lts.specs.Lts.{Triple, IsTriple, label_of}
 use Rattle.lts.proofs.CallerLemmas.{transitions-kept}
-use Rattle.autfmt.specs.declared.held.Held.{Held}
-use Rattle.autfmt.specs.Held.{AddsTriple, AreShown, Holds}
+use Rattle.autfmt.specs.{declared.held.Held.Held, Held.AddsTriple, Held.AreShown, Held.Holds}
 
 -- ---- Hiding: the result depends only on which labels are in the hide list, and not on their order
 

@@ -1,16 +1,13 @@
 -- The lemmas in this file are about reading a label. If a label is read from bytes, then these bytes are a written form
 -- of the label according to the grammar. Each written form that the grammar allows can be read.
-use Rattle.std.proofs.Common.{◌≡◌, ◌≢◌, ℕ, true, List, [], ◌∷◌, ◌++◌, All, refl, sym, ap, ◌∙◌, append_assoc, arith}
-use Rattle.std.proofs.Common.{◌+◌, ◌<◌, ◌≤◌, cond, Option, Some, None, rules, suc, length, take, drop, inl, inr}
-use Rattle.std.proofs.Common.{zero, get_or, add-one}
-use Rattle.std.specs.Prelude.{◌==◌, nat_le, ◌&&◌}
-use Rattle.std.specs.List.{list_all}
+use Rattle.std.proofs.Common.{◌≡◌, ◌≢◌, ℕ, true, List, [], ◌∷◌, ◌++◌, All, refl, sym, ap, ◌∙◌, append_assoc, arith, ◌+◌}
+use Rattle.std.proofs.Common.{◌<◌, ◌≤◌, cond, Option, Some, None, rules, suc, length, take, drop, inl, inr, zero}
+use Rattle.std.proofs.Common.{get_or, add-one}
+use Rattle.std.specs.{Prelude.◌==◌, Prelude.nat_le, Prelude.◌&&◌, List.list_all, Char.is_ascii_digit}
+use Rattle.std.proofs.lemmas.{Bool.Decides.nat_tests, Bool.Decides.Decides-by_and, Option.cond_some}
 use Rattle.std.proofs.lemmas.Bool.{cond_both, eq-eqb, and_parts, and_from, or_left, leb-true, le-leb, ne_eqb, eqb-true}
 use Rattle.std.proofs.lemmas.List.Elements.{All-cons, All-weaker, All-push}
 use Rattle.std.proofs.lemmas.List.Sums.{AllPass-from_list_all, list_all-from_AllPass, prefix_len_passes}
-use Rattle.std.specs.Char.{is_ascii_digit}
-use Rattle.std.proofs.lemmas.Bool.Decides.{nat_tests, Decides-by_and}
-use Rattle.std.proofs.lemmas.Option.{cond_some}
 use Rattle.std.proofs.lemmas.List.{length-take, get_or-take, take_at, drop_at, take-append-drop, length_push}
 use Rattle.theory.specs.System.{IsLabel}
 use Rattle.autfmt.specs.Grammar.{is_letter, is_plain, quoted, Label}

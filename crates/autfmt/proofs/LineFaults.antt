@@ -1,19 +1,15 @@
 -- Every line of an input is correct or has exactly one error.
 use Rattle.std.proofs.Common.{◌≡◌, ◌⊎◌, ℕ, ◌<◌, ◌≤◌, List, ◌++◌, length, Option, None, Some, refl, sym, inl, inr, arith}
-use Rattle.std.proofs.Common.{subst}
+use Rattle.std.proofs.Common.{subst, length-append}
 use Rattle.std.proofs.lemmas.Bool.{cases_lt}
-use Rattle.std.proofs.lemmas.List.{length-append}
-use Rattle.autfmt.specs.declared.fault.Fault.{Fault}
+use Rattle.autfmt.specs.{declared.fault.Fault.Fault, Bounds.Bounds, Grammar.Header, Texts.IsShort, Texts.GoodHeader}
+use Rattle.autfmt.specs.{Texts.SpellsAmong, declared.line.TheConstants.LONGEST_LINE}
 use Rattle.autfmt.specs.declared.fault.Fault.TheVariants.{BadHeader, LineTooLong, BadEdge}
-use Rattle.theory.specs.System.{Transition}
-use Rattle.autfmt.specs.Bounds.{Bounds}
-use Rattle.autfmt.specs.Grammar.{Header}
-use Rattle.autfmt.specs.Texts.{IsShort, GoodHeader, SpellsAmong}
 use Rattle.autfmt.specs.Faults.{LineFault, HeaderFault, numbers_fault, EdgeFault, ends_fault}
 use Rattle.autfmt.specs.Faults.LineFault.{too_long, unread, wrong}
+use Rattle.theory.specs.System.{Transition}
 use Rattle.autfmt.proofs.Lines.{transition-label, IsReader, one_reading, decided, header_reader, transition_reader}
 use Rattle.autfmt.proofs.Lines.{one_header}
-use Rattle.autfmt.specs.declared.line.TheConstants.{LONGEST_LINE}
 
 -- Assume that the value x is the result of reading a line (`read`) if and only if x is the contents of the line
 -- (`IsRead x`).
@@ -61,8 +57,8 @@ LineFault-long IsRead j not_bad not_in (wrong x short is e) = absurd (not_in x e
 
 -- ---- Line 1
 
--- If the numbers of a header have no error, then they are within the limits, and the first state is less than the number
--- of states.
+-- If the numbers of a header have no error, then they are within the limits, and the first state is less than the
+-- number of states.
 numbers_right : (bounds : Bounds) (f m n : ℕ) → numbers_fault bounds (f, m, n) ≡ None →
     (f < n) × (n ≤ bounds.states) × (m ≤ bounds.transitions)
 numbers_right bounds f m n none = grind arith

@@ -2,10 +2,8 @@
 -- allows. Each line can be read in at most one way as a header, in at most one way as a transition, and in at most one
 -- way as a line of a hide list, which is a file with the labels to hide.
 use Rattle.std.proofs.Common.{rules, ◌≡◌, ℕ, true, false, cond, List, [], ◌∷◌, ◌++◌, Option, Some, None, refl, ap, ◌∙◌}
-use Rattle.std.proofs.Common.{arith, ◌⊎◌, sym, inl, inr}
-use Rattle.std.specs.Prelude.{codes, ◌==◌, IfSome, IfNone}
+use Rattle.std.proofs.Common.{arith, ◌⊎◌, sym, inl, inr, codes, ◌==◌, IfSome, IfNone, eqb-true}
 use Rattle.std.specs.Char.{is_ascii_digit}
-use Rattle.std.proofs.lemmas.Bool.{eqb-true}
 use Rattle.std.proofs.lemmas.Option.{cond_some, same_Some, none-some}
 use Rattle.theory.specs.System.{IsLabel}
 use Rattle.autfmt.specs.Grammar.{Spaced, IsDecimal, Label, Header, TransitionLine, HideLine}

@@ -2,23 +2,15 @@
 -- The last lemmas are about labels and targets that are written to the buffer by copying an array of fixed length.
 use Rattle.std.proofs.Common.{◌≡◌, ℕ, ◌+◌, ◌<◌, List, [], ◌++◌, length, map, get_or, take, drop, refl, sym, ap, ◌∙◌}
 use Rattle.std.proofs.Common.{subst, Option, append_assoc, arith, ◌⊎◌, inl, inr, ◌-◌, ◌≤◌, ◌∷◌, codes, decimal, ap₂}
-use Rattle.std.proofs.Common.{length-append}
+use Rattle.std.proofs.Common.{length-append, append-nil, take-append-drop, take-take, length-take-le, length-drop}
 use Rattle.std.specs.Io.KnownBytes.{Appends}
-use Rattle.std.proofs.KnownBytes.{Appends-nil, Appends-trans}
-use Rattle.std.proofs.lemmas.List.{append-nil, map_more, map-append, take-append-drop, get_or-map, get_or_append_left}
-use Rattle.std.proofs.lemmas.List.{get_or-append_right, take-take, length-take-le, length-drop}
-use Rattle.std.proofs.lemmas.List.Concat.{flat_map-append}
-use Rattle.std.proofs.lemmas.Bool.{cases_lt}
-use Rattle.std.proofs.Math.Seq.{take-append-add}
-use Rattle.lts.specs.Labels.{text_of}
-use Rattle.lts.specs.Lts.{Triple, transition_of}
-use Rattle.autfmt.specs.Progress.{Progress}
-use Rattle.autfmt.specs.Ranks.{Entry, texts}
-use Rattle.autfmt.specs.Stream.{AppendsPrefix}
-use Rattle.autfmt.specs.LabelTexts.{from_source, written_lines}
-use Rattle.autfmt.specs.Written.{written_transition}
+use Rattle.std.proofs.{KnownBytes.Appends-nil, KnownBytes.Appends-trans, Math.Seq.take-append-add}
+use Rattle.std.proofs.lemmas.{List.Concat.flat_map-append, Bool.cases_lt}
+use Rattle.std.proofs.lemmas.List.{map_more, map-append, get_or-map, get_or_append_left, get_or-append_right}
+use Rattle.lts.specs.{Labels.text_of, Lts.Triple, Lts.transition_of}
+use Rattle.autfmt.specs.{Progress.Progress, Ranks.Entry, Ranks.texts, Stream.AppendsPrefix, LabelTexts.from_source}
+use Rattle.autfmt.specs.{LabelTexts.written_lines, Written.written_transition, Fronts.IsSpelled, Fronts.AreSpelled}
 use Rattle.autfmt.specs.declared.spelling.Spelled.{Spelled}
-use Rattle.autfmt.specs.Fronts.{IsSpelled, AreSpelled}
 use Rattle.autfmt.proofs.Lists.{begins_with}
 
 -- Suppose that bytes of the buffer are written to the sink (the object to which the output is written) and removed from

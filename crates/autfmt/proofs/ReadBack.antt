@@ -1,23 +1,18 @@
 -- The text that is written for a system can be read again. The result is the same system, with its transitions in the
 -- order in which they are written.
 use Rattle.std.proofs.Common.{◌≡◌, ℕ, rules, ◌<◌, ◌≤◌, ◌^◌, List, [], ◌∷◌, ◌++◌, length, map, codes, decimal, All, refl}
-use Rattle.std.proofs.Common.{ap, ◌∙◌, subst, inl, arith, append_assoc, length-append}
-use Rattle.std.proofs.lemmas.Grind.{common_steps}
-use Rattle.std.specs.List.{AllZip, AllByRecursion, flat_map}
-use Rattle.std.proofs.lemmas.Fmt.{length-decimal-le}
-use Rattle.std.proofs.lemmas.List.{append-nil}
+use Rattle.std.proofs.Common.{ap, ◌∙◌, subst, inl, arith, append_assoc, length-append, flat_map, append-nil}
+use Rattle.std.proofs.lemmas.{Grind.common_steps, Fmt.length-decimal-le}
 use Rattle.std.proofs.lemmas.List.Elements.{All-nil, All-head, All-tail, All-from_recursion, recursion_from_All}
 use Rattle.std.proofs.lemmas.List.Sorted.{All-permutation, IsPermutation-sym, length_permutation}
+use Rattle.std.specs.List.{AllZip, AllByRecursion}
 use Rattle.theory.specs.System.{System, Transition, IsSystem, IsAmong, IsLabel}
 use Rattle.autfmt.specs.Bounds.{Bounds, IsWithinFile}
-use Rattle.autfmt.proofs.Tokens.{IsBlank}
-use Rattle.autfmt.proofs.Labels.{IsLabel-spelled}
-use Rattle.autfmt.proofs.Cutting.{lines_of-feed}
-use Rattle.autfmt.proofs.Lines.{Header-one, TransitionLine-one}
-use Rattle.autfmt.proofs.Lists.{AllZip-firsts}
 use Rattle.autfmt.specs.Grammar.{Blanks, Spaced, Label, Header}
 use Rattle.autfmt.specs.Texts.{lines_of, Lines, IsOneLine, IsShort, SpellsAmong, Reads}
 use Rattle.autfmt.specs.Written.{written_label, header_of, written_transition, listed, IsInWrittenOrder}
+use Rattle.autfmt.proofs.{Tokens.IsBlank, Labels.IsLabel-spelled, Cutting.lines_of-feed, Lists.AllZip-firsts}
+use Rattle.autfmt.proofs.Lines.{Header-one, TransitionLine-one}
 
 abbrev header_line : System → List ℕ
 header_line A =
@@ -127,8 +122,8 @@ line_and_feed e = search (rules, codes, decimal, e.source, e.label, append_assoc
 header_and_feed : (A : System) → header_of A.first (length A.transitions) A.states ≡ header_line A ++ 10 ∷ []
 header_and_feed A = simp append_assoc
 
--- If a line with its line feed (`written`) is put in front of a text, then this line is put in front of the lines of the
--- text.
+-- If a line with its line feed (`written`) is put in front of a text, then this line is put in front of the lines of
+-- the text.
 lines_of-written_line : (written line others : List ℕ) → written ≡ line ++ 10 ∷ [] → IsOneLine line →
     lines_of (written ++ others) ≡ line ∷ lines_of others
 lines_of-written_line written line others e one =

@@ -3,32 +3,24 @@
 -- system, which is the system or an error.
 use Rattle.std.proofs.Common.{ℕ, List, ◌++◌, Option, Result, MatchResult, arith, ◌≡◌, ◌⊎◌, ◌+◌, ◌<◌, ◌≤◌, true, false}
 use Rattle.std.proofs.Common.{[], ◌∷◌, length, Some, IfSome, Ok, Err, IfOk, IfErr, refl, sym, ◌∙◌, ap, subst, inl, inr}
-use Rattle.std.proofs.Common.{rules}
+use Rattle.std.proofs.Common.{rules, append_assoc, append-nil}
 use Rattle.std.specs.Io.KnownBytes.{Consumes, IsAtEnd}
 use Rattle.std.proofs.KnownBytes.{Consumes-trans}
-use Rattle.std.proofs.lemmas.List.{append_assoc, append-nil}
-use Rattle.std.proofs.lemmas.List.Elements.{All-nil}
-use Rattle.std.proofs.lemmas.Slice.Zip.{all_zipped_more}
+use Rattle.std.proofs.lemmas.{List.Elements.All-nil, Slice.Zip.all_zipped_more}
 use Rattle.std.proofs.lemmas.List.Sorted.{length_permutation, Contains-permutation}
 use Rattle.theory.specs.System.{Transition, IsAmong}
 use Rattle.lts.specs.Lts.{Grouped, IsBuilt}
+use Rattle.autfmt.specs.{declared.fault.Fault.Fault, declared.held.Held.Held, declared.judge.Promise.Promise}
+use Rattle.autfmt.specs.{Bounds.Bounds, Grammar.TransitionLine, Held.Holds, Readers.IsTextFault, Readers.HasGoodHeader}
 use Rattle.autfmt.specs.Outcomes.{Takes, Refuses, ReadsTo}
-use Rattle.autfmt.specs.declared.fault.Fault.{Fault}
 use Rattle.autfmt.specs.declared.fault.Fault.TheVariants.{LineTooLong, MissingEdges, ExtraText, Device, Memory}
-use Rattle.autfmt.specs.declared.held.Held.{Held}
-use Rattle.autfmt.specs.declared.judge.Promise.{Promise}
-use Rattle.autfmt.specs.Bounds.{Bounds}
-use Rattle.autfmt.specs.Grammar.{TransitionLine}
 use Rattle.autfmt.specs.Texts.{lines_of, Lines, IsShort, GoodHeader, Reads}
 use Rattle.autfmt.specs.Faults.{LineFault, HeaderFault, EdgeFault, EdgesFault, FirstFault}
 use Rattle.autfmt.specs.Cutter.{Cutting, HasCut, CutsLine, CutsEnd, BeginsTooLong, IsPart}
-use Rattle.autfmt.specs.Held.{Holds}
-use Rattle.autfmt.specs.Readers.{IsTextFault, HasGoodHeader}
 use Rattle.autfmt.specs.ReadSoFar.{ReadSoFar, HeldSoFar, ReadsOneMore, HoldsText}
 use Rattle.autfmt.specs.Outcomes.Refuses.{no_memory, failed_source, faulty_text}
-use Rattle.autfmt.proofs.FirstFaults.{behind}
+use Rattle.autfmt.proofs.{FirstFaults.behind, Holding.Holds-length}
 use Rattle.autfmt.proofs.FaultLaws.{edges, Reads-from_lines, no_judged_fault}
-use Rattle.autfmt.proofs.Holding.{Holds-length}
 use Rattle.autfmt.proofs.Cutting.{HasCut-line, HasCut-too_long, HasCut-end, HasCut-more, HasCut-part}
 
 -- Suppose that two calls read bytes from a source (an object from which an input is read), one call after the other.

@@ -3,15 +3,11 @@
 use Rattle.std.proofs.Common.{◌≡◌, ℕ, ◌+◌, Option, List, ◌++◌, length, map, IsPermutation, IsSorted, subst}
 use Rattle.std.proofs.Common.{append_assoc, rules}
 use Rattle.std.specs.Io.KnownBytes.{Appends}
-use Rattle.std.proofs.lemmas.List.{length-map}
-use Rattle.std.proofs.lemmas.List.Sorted.{length_permutation}
+use Rattle.std.proofs.lemmas.{List.length-map, List.Sorted.length_permutation}
 use Rattle.lts.specs.Lts.{Grouped, Triple, IsLts, before, row_of, transition_of, system_of, system_from}
-use Rattle.autfmt.specs.declared.wording.Words.{Words}
-use Rattle.autfmt.specs.Progress.{Progress}
-use Rattle.autfmt.specs.Ranks.{texts, IsSortedRow}
-use Rattle.autfmt.specs.Stream.{AppendsPrefix}
+use Rattle.autfmt.specs.{declared.wording.Words.Words, Progress.Progress, Ranks.texts, Ranks.IsSortedRow}
+use Rattle.autfmt.specs.{Stream.AppendsPrefix, Written.header_of, Written.Text, Written.GainsText, Written.GainsPrefix}
 use Rattle.autfmt.specs.LabelTexts.{AreWords, from_source, written_lines}
-use Rattle.autfmt.specs.Written.{header_of, Text, GainsText, GainsPrefix}
 use Rattle.autfmt.proofs.Ranks.{written_order_from_ranks}
 use Rattle.autfmt.proofs.Progress.{goes_on, waits_too, beginning_put, longer, everything_put, lines-append}
 use Rattle.autfmt.proofs.Rows.{AreOrdered, one_row_more, all_ordered, rest_ordered, ranked, triple_cmp}

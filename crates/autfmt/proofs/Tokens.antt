@@ -3,16 +3,12 @@
 -- front of a token, about the bytes that may follow a token, and about bytes that do not occur in a line.
 use Rattle.std.proofs.Common.{◌≡◌, ◌≢◌, ◌⊎◌, ℕ, Bool, true, false, not, List, [], ◌∷◌, ◌++◌, All, refl, sym, ap, ◌∙◌}
 use Rattle.std.proofs.Common.{append_assoc, arith, ◌+◌, ◌-◌, ◌*◌, ◌/◌, ◌%◌, ◌^◌, ◌<◌, ◌≤◌, cond, Option, Some, None}
-use Rattle.std.proofs.Common.{rules}
-use Rattle.std.specs.Prelude.{◌==◌, decimal, nat_lt}
-use Rattle.std.specs.List.{AllByRecursion, list_all}
-use Rattle.std.proofs.lemmas.Grind.{common_steps}
-use Rattle.std.proofs.lemmas.Bool.{cond_both, eq-eqb, and_parts, ltb-true}
+use Rattle.std.proofs.Common.{rules, ◌==◌, decimal, nat_lt, eq-eqb, ltb-true}
+use Rattle.std.specs.{List.AllByRecursion, List.list_all, Char.is_ascii_digit}
+use Rattle.std.proofs.lemmas.{Grind.common_steps, Bool.cond_both, Bool.and_parts, Bool.Decides.nat_tests}
+use Rattle.std.proofs.lemmas.{Fmt.decimal_digit, Fmt.decimal_step, Fmt.decimal_by_steps}
 use Rattle.std.proofs.lemmas.List.Elements.{All-nil, All-cons, All-head, All-tail, All-append, All-weaker}
 use Rattle.std.proofs.lemmas.List.Sums.{AllPass-from_list_all, list_all-from_AllPass}
-use Rattle.std.specs.Char.{is_ascii_digit}
-use Rattle.std.proofs.lemmas.Bool.Decides.{nat_tests}
-use Rattle.std.proofs.lemmas.Fmt.{decimal_digit, decimal_step, decimal_by_steps}
 use Rattle.autfmt.specs.Grammar.{Blanks, Spaced, IsDecimal}
 use Rattle.autfmt.specs.Reading.{is_blank, are_blanks, after_blanks, grows, more_digits, number_at, ◌>>=◌}
 

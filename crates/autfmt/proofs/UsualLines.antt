@@ -2,26 +2,19 @@
 -- transition at the beginning of some bytes, then the first line of these bytes denotes this transition.
 use Rattle.std.proofs.Common.{◌≡◌, ◌≢◌, ℕ, ◌+◌, ◌^◌, ◌<◌, ◌≤◌, not, eqb, List, [], ◌∷◌, ◌++◌, length, get_or, take}
 use Rattle.std.proofs.Common.{drop, map, codes, decimal, Some, refl, sym, ap, ◌∙◌, inl, inr, append_assoc, Bool, arith}
-use Rattle.std.specs.Char.{is_ascii_digit}
-use Rattle.std.specs.List.{prefix_len}
+use Rattle.std.specs.{Char.is_ascii_digit, List.prefix_len, Str.Parse.digits_value}
 use lib.Count.{count_trailing_zeros}
 use lib.Lanes.{chunk, mask_l}
-use Rattle.std.specs.Str.Parse.{digits_value}
-use Rattle.std.proofs.lemmas.Bool.{eqb-true}
-use Rattle.std.proofs.lemmas.Simd.{length-chunk, trailing_mask_l, run_in_chunk_stops}
-use Rattle.std.proofs.lemmas.Fmt.{decimal-digits_value}
+use Rattle.std.proofs.lemmas.{Bool.eqb-true, Simd.length-chunk, Simd.trailing_mask_l, Simd.run_in_chunk_stops}
+use Rattle.std.proofs.lemmas.{Fmt.decimal-digits_value, List.Elements.All-from_recursion, List.Sums.prefix_len_passes}
 use Rattle.std.proofs.lemmas.Str.Parse.{IsNumeralModel, numerals_by_value, tells_by_index, digits_value_short}
 use Rattle.std.proofs.lemmas.List.{take-take, get_or-take, length-take-le, take-append-drop, drop_more}
-use Rattle.std.proofs.lemmas.List.Elements.{All-from_recursion}
-use Rattle.std.proofs.lemmas.List.Sums.{prefix_len_passes}
 use Rattle.theory.specs.System.{IsLabel}
-use Rattle.autfmt.specs.Grammar.{Blanks, quoted}
-use Rattle.autfmt.specs.Reading.{past, plain_at}
+use Rattle.autfmt.specs.{Grammar.Blanks, Grammar.quoted, Reading.past, Reading.plain_at}
 use Rattle.autfmt.specs.Usual.{AreDigitsInFront, BeginsWithNumber, FollowsComma, FollowsEnd, HasMark, BeginsWithLabel}
 use Rattle.autfmt.specs.Usual.{BeginsWithTransition}
-use Rattle.autfmt.proofs.Tokens.{IsBlank, digit-range}
+use Rattle.autfmt.proofs.{Tokens.IsBlank, Tokens.digit-range, Lines.past-takes}
 use Rattle.autfmt.proofs.Labels.{quoted-append, plain_at-takes}
-use Rattle.autfmt.proofs.Lines.{past-takes}
 use Rattle.autfmt.proofs.ReadBack.{none, a_space, spelled_line, spelled_line-short, spaced_line}
 
 -- ---- Numbers
@@ -98,8 +91,8 @@ plain_in_front bytes a rest e = let h = plain_at-takes bytes a rest e in (a, inl
 
 -- ---- Whole lines
 
--- `BeginsWithToken token bytes rest` holds if the list `bytes` begins with the token `token` and at most one blank after
--- it, and `rest` are the bytes after this token and this blank.
+-- `BeginsWithToken token bytes rest` holds if the list `bytes` begins with the token `token` and at most one blank
+-- after it, and `rest` are the bytes after this token and this blank.
 abbrev BeginsWithToken : List ℕ → List ℕ → List ℕ → Type 0
 BeginsWithToken token bytes rest =
     (blank : List ℕ) × Blanks blank × (length blank ≤ 1) × (bytes ≡ token ++ (blank ++ rest))

@@ -24,9 +24,9 @@ pub data LineFault {X : Type 0} (IsRead : X → Type 0) (fault_in : X → Option
   unread : fault ≡ bad → IsShort line → ((x : X) → ¬ IsRead x) → LineFault IsRead fault_in k bad line fault
   wrong : (x : X) → IsShort line → IsRead x → fault_in x ≡ Some fault → LineFault IsRead fault_in k bad line fault
 
--- `numbers_fault bounds (f, m, n)` is the error in the numbers of a header, or `None` if these numbers have no error. The
--- header declares the first state f, m transitions and n states, and `bounds` are the limits on m and n. If the numbers
--- have several of the errors below, the result is the first of these errors.
+-- `numbers_fault bounds (f, m, n)` is the error in the numbers of a header, or `None` if these numbers have no error.
+-- The header declares the first state f, m transitions and n states, and `bounds` are the limits on m and n. If the
+-- numbers have several of the errors below, the result is the first of these errors.
 abbrev pub numbers_fault : Bounds → ℕ × ℕ × ℕ → Option Fault
 numbers_fault bounds (f, m, n) =
     if n == 0 then Some NoStates else if nat_le n f then Some FirstState else
@@ -42,7 +42,8 @@ HeaderFault bounds line = LineFault (λ x. Header line x.0 x.1 x.2) (numbers_fau
 -- is not a state of a system with n states. The result is `None` if s and t are states of the system, which are the
 -- numbers less than n.
 abbrev pub ends_fault : ℕ → ℕ → ℕ × List ℕ × ℕ → Option Fault
-ends_fault n k (s, a, t) = if nat_le n s then Some (SourceRange k) else if nat_le n t then Some (TargetRange k) else None
+ends_fault n k (s, a, t) =
+    if nat_le n s then Some (SourceRange k) else if nat_le n t then Some (TargetRange k) else None
 
 -- `EdgeFault n k line fault` holds if `line`, which is line k of an input, is not a transition between states of a
 -- system with n states, and `fault` is the error of this line.

@@ -53,14 +53,14 @@ Advances over bytes result now =
     MatchResult result (λ step. Makes over bytes step now) (λ _. (over ≡ false) × IsPart bytes)
 
 -- `Peeks over bytes result now` holds if `result` is a correct result of a call of the function `is_at_end`, which
--- returns whether the input ends after the lines that were split off so far. The argument `now` is the state of the line
--- splitter after the call. The argument `over` is true if the source (the object from which the input is read) had ended
--- before the call. The list `bytes` contains the bytes that were not yet divided into lines before the call, followed by
--- the bytes that the call has read from the input. If the call succeeded, `bytes` must be the bytes that are not yet
--- divided into lines after the call (`now.ahead`). The result must then be true if and only if the input has ended
--- (`now.over`). If the result is true, `bytes` must be empty. If the result is false, the source must not have ended
--- before the call, and `bytes` must not be empty. If the source has failed, the source must not have ended before the
--- call, and `bytes` must be empty.
+-- returns whether the input ends after the lines that were split off so far. The argument `now` is the state of the
+-- line splitter after the call. The argument `over` is true if the source (the object from which the input is read) had
+-- ended before the call. The list `bytes` contains the bytes that were not yet divided into lines before the call,
+-- followed by the bytes that the call has read from the input. If the call succeeded, `bytes` must be the bytes that
+-- are not yet divided into lines after the call (`now.ahead`). The result must then be true if and only if the input
+-- has ended (`now.over`). If the result is true, `bytes` must be empty. If the result is false, the source must not
+-- have ended before the call, and `bytes` must not be empty. If the source has failed, the source must not have ended
+-- before the call, and `bytes` must be empty.
 abbrev pub Peeks : {E : Type 0} → Bool → List ℕ → Result Bool E → Cutting → Type 0
 Peeks over bytes result now =
     MatchResult result

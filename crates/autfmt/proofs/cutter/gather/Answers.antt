@@ -1,7 +1,5 @@
-use Rattle.std.proofs.Common.{arith, [], take, drop, sym}
-use Rattle.std.proofs.lemmas.Grind.{common_steps}
-use Rattle.std.proofs.lemmas.Bool.{iff_false}
-use Rattle.std.proofs.lemmas.List.{take-append-drop, append-nil}
+use Rattle.std.proofs.Common.{arith, [], take, drop, sym, take-append-drop, append-nil}
+use Rattle.std.proofs.lemmas.{Grind.common_steps, Bool.iff_false}
 use Rattle.autfmt.proofs.Cutting.{feed_found, too_long}
 use Rattle.autfmt.proofs.cutter.gather.Goals as goal
 

@@ -1,9 +1,7 @@
 use Rattle.std.proofs.Common.{◌≡◌, ℕ, ◌-◌, List, ◌++◌, length}
 use Rattle.std.specs.Io.KnownBytes.{Consumes}
-use Rattle.autfmt.specs.Cutter.{IsPart}
+use Rattle.autfmt.specs.{Cutter.IsPart, declared.cutter.TheConstants.CHUNK, declared.line.TheConstants.LONGEST_LINE}
 use Rattle.autfmt.proofs.cutter.gather.Given as goal
-use Rattle.autfmt.specs.declared.cutter.TheConstants.{CHUNK}
-use Rattle.autfmt.specs.declared.line.TheConstants.{LONGEST_LINE}
 
 abbrev pub invariant-loop-n : goal.invariant-loop-n
 invariant-loop-n g l = record {

@@ -1,5 +1,4 @@
-use Rattle.std.proofs.Common.{rules, ℕ, ◌<◌, ◌^◌, ◌∙◌, List, [], ◌∷◌, length, take, arith}
-use Rattle.std.proofs.Math.Nat.{pow-suc, mod-eq_of_lt}
+use Rattle.std.proofs.Common.{rules, ℕ, ◌<◌, ◌^◌, ◌∙◌, List, [], ◌∷◌, length, take, arith, pow-suc, mod-eq_of_lt}
 use Rattle.core.specs.Int.Digits.{AllBelowBase}
 use Rattle.core.proofs.dec2flt.Eight.{eight_at}
 use lib.Lanes.{number_l}

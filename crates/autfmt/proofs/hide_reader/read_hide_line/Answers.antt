@@ -1,6 +1,5 @@
 use Rattle.std.proofs.Common.{inl, arith}
-use Rattle.std.proofs.lemmas.List.{length_push}
-use Rattle.std.proofs.lemmas.Result.{err_from_is_err_and}
+use Rattle.std.proofs.lemmas.{List.length_push, Result.err_from_is_err_and}
 use Rattle.autfmt.proofs.HideSteps.{hide_too_long, hide_ends, hide_failed, hide_good, hide_faulty}
 use Rattle.autfmt.proofs.hide_reader.read_hide_line.Goals as goal
 

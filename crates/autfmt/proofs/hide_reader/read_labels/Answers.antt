@@ -1,6 +1,5 @@
 use Rattle.std.proofs.Common.{[], ◌∷◌, ◌++◌, length, Ok, ap, refl, arith}
-use Rattle.std.proofs.lemmas.List.{length_push}
-use Rattle.std.proofs.lemmas.Result.{err_from_is_err_and}
+use Rattle.std.proofs.lemmas.{List.length_push, Result.err_from_is_err_and}
 use Rattle.std.proofs.KnownBytes.{Consumes-nil, Consumes-trans}
 use Rattle.autfmt.proofs.HideSteps.{HideReadSoFar-new, hide_ends, hide_behind, hide_end_failed}
 use Rattle.autfmt.proofs.ReaderSteps.{fresh_open, takes_more}

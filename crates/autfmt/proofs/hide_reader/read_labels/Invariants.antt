@@ -1,7 +1,6 @@
 use Rattle.std.proofs.Common.{◌≡◌, ℕ, ◌≤◌, List, length}
 use Rattle.std.specs.Io.KnownBytes.{Consumes}
-use Rattle.autfmt.specs.Cutter.{Feeds}
-use Rattle.autfmt.specs.HideReadSoFar.{HideReadSoFar}
+use Rattle.autfmt.specs.{Cutter.Feeds, HideReadSoFar.HideReadSoFar}
 use Rattle.autfmt.proofs.hide_reader.read_labels.Given as goal
 
 abbrev pub invariant-loop-found : goal.invariant-loop-found

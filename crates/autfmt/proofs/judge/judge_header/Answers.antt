@@ -1,10 +1,8 @@
 use Rattle.std.proofs.Common.{◌≡◌, Some, arith, refl}
-use Rattle.autfmt.specs.Bounds.{Bounds}
-use Rattle.autfmt.specs.declared.fault.Fault.{Fault}
-use Rattle.autfmt.specs.Faults.{numbers_fault, HeaderFault}
+use Rattle.autfmt.specs.{Bounds.Bounds, declared.fault.Fault.Fault, Faults.numbers_fault, Faults.HeaderFault}
 use Rattle.autfmt.specs.Faults.LineFault.{unread, wrong}
-use Rattle.autfmt.proofs.judge.judge_header.Goals as goal
 use Rattle.autfmt.proofs.judge.judge_header.Goals.{In-Some}
+use Rattle.autfmt.proofs.judge.judge_header.Goals as goal
 
 -- Suppose that line 1 is not too long, and that `fault` is the error in the numbers that line 1 declares. Then `fault`
 -- is the error of line 1.

@@ -4,10 +4,9 @@ use Rattle.std.proofs.lemmas.Result.{err_from_is_err_and}
 use Rattle.std.proofs.KnownBytes.{Consumes-trans}
 use Rattle.theory.specs.System.{Transition}
 use Rattle.autfmt.specs.ReadSoFar.{HeldSoFar}
+use Rattle.autfmt.proofs.{reader.read_text.Given.Over, reader.read_text.Goals.After-is_at_end}
 use Rattle.autfmt.proofs.ReaderSteps.{end_failed, text_behind, text_ends, count_held, takes_more}
-use Rattle.autfmt.proofs.reader.read_text.Given.{Over}
 use Rattle.autfmt.proofs.reader.read_text.Goals as goal
-use Rattle.autfmt.proofs.reader.read_text.Goals.{After-is_at_end}
 
 pub returns-in_err-held-clause-whole : goal.returns-in_err-held-clause-whole
 returns-in_err-held-clause-whole g c =

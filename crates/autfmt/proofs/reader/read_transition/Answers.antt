@@ -2,12 +2,11 @@ use Rattle.std.proofs.Common.{◌≡◌, List, ◌++◌, length, inl, arith}
 use Rattle.std.proofs.lemmas.Result.{err_from_is_err_and}
 use Rattle.theory.specs.System.{Transition, IsAmong}
 use Rattle.autfmt.specs.Held.{Holds}
-use Rattle.autfmt.proofs.Holding.{Holds-add}
+use Rattle.autfmt.proofs.{Holding.Holds-add, reader.read_transition.Given.Over}
 use Rattle.autfmt.proofs.ReaderSteps.{transition_too_long, transition_missing, transition_failed, transition_good}
 use Rattle.autfmt.proofs.ReaderSteps.{transition_faulty, no_memory_behind, next_cut, count_held}
-use Rattle.autfmt.proofs.reader.read_transition.Given.{Over}
-use Rattle.autfmt.proofs.reader.read_transition.Goals as goal
 use Rattle.autfmt.proofs.reader.read_transition.Goals.{After-advance, In_ok-read}
+use Rattle.autfmt.proofs.reader.read_transition.Goals as goal
 
 -- The number of transitions that were read equals the number of triples that are stored.
 count : (g : Over) (c : After-advance g) (es : List Transition) →

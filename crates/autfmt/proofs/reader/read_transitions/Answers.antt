@@ -1,10 +1,7 @@
-use Rattle.std.proofs.Common.{rules, [], ◌++◌, length, ap, arith}
-use Rattle.std.proofs.lemmas.List.{append_assoc, append-nil}
-use Rattle.std.proofs.lemmas.Bool.{both_ways}
-use Rattle.std.proofs.lemmas.Result.{err_from_is_err_and}
+use Rattle.std.proofs.Common.{rules, [], ◌++◌, length, ap, arith, append_assoc, append-nil}
+use Rattle.std.proofs.lemmas.{Bool.both_ways, Result.err_from_is_err_and}
 use Rattle.std.proofs.KnownBytes.{Consumes-nil, Consumes-trans}
-use Rattle.autfmt.proofs.Holding.{Holds-new}
-use Rattle.autfmt.proofs.ReaderSteps.{no_memory_behind, HeldSoFar-push}
+use Rattle.autfmt.proofs.{Holding.Holds-new, ReaderSteps.no_memory_behind, ReaderSteps.HeldSoFar-push}
 use Rattle.autfmt.proofs.reader.read_transitions.Goals as goal
 
 pub loop-found-init : goal.loop-found-init

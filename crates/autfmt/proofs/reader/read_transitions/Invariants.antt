@@ -1,9 +1,7 @@
 use Rattle.std.proofs.Common.{◌≡◌, ℕ, ◌≤◌, List, [], ◌++◌, length}
 use Rattle.std.specs.Io.KnownBytes.{Consumes}
 use Rattle.theory.specs.System.{Transition}
-use Rattle.autfmt.specs.Bounds.{Bounds}
-use Rattle.autfmt.specs.Cutter.{Feeds}
-use Rattle.autfmt.specs.ReadSoFar.{ReadSoFar, HeldSoFar}
+use Rattle.autfmt.specs.{Bounds.Bounds, Cutter.Feeds, ReadSoFar.ReadSoFar, ReadSoFar.HeldSoFar}
 use Rattle.autfmt.proofs.reader.read_transitions.Given as goal
 
 abbrev pub invariant-loop-found : goal.invariant-loop-found

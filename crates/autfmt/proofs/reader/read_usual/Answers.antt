@@ -1,8 +1,6 @@
 use Rattle.std.proofs.Common.{rules, [], ◌∷◌, IsTrue, refl, ◌∙◌, append-nil}
 use Rattle.theory.specs.System.{Transition, IsAmong}
-use Rattle.autfmt.proofs.Holding.{Holds-add}
-use Rattle.autfmt.proofs.Cutting.{Divides-line}
-use Rattle.autfmt.proofs.Lines.{TransitionLine-one}
+use Rattle.autfmt.proofs.{Holding.Holds-add, Cutting.Divides-line, Lines.TransitionLine-one}
 use Rattle.autfmt.proofs.ReaderSteps.{transition_good}
 use Rattle.autfmt.proofs.reader.read_usual.Goals as goal
 
@@ -18,7 +16,8 @@ returns-clause-taken c =
     let divides =
     Divides-line given [] (standing.0.header ∷ standing.0.lines) c.args.cutter.now standing.0.cut front.line _
     c.pass.ensures.open one (append-nil _ ∙ front.whole) in
-    let so_far = transition_good [] standing.0 front.line _ e (λ more end. divides more) front.short front.spelled among in
+    let so_far = transition_good [] standing.0 front.line _ e
+        (λ more end. divides more) front.short front.spelled among in
     let added = c.in_ok-is_added.ensures.added standing.1.shown yes in
     let passed = c.pass.ensures.passed front.line _ front.whole refl in
     (e, (rw passed so_far, Holds-add _ _ _ _ es e standing.1 among added))

@@ -1,6 +1,5 @@
 use Rattle.std.proofs.Common.{rules, arith}
-use Rattle.std.proofs.lemmas.Grind.{common_steps}
-use Rattle.std.proofs.lemmas.Fmt.{length-decimal-le}
+use Rattle.std.proofs.lemmas.{Grind.common_steps, Fmt.length-decimal-le}
 use Rattle.autfmt.proofs.Progress.{target_put}
 use Rattle.autfmt.proofs.spelling.append_target.Goals as goal
 

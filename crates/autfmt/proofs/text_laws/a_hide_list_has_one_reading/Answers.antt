@@ -1,8 +1,6 @@
 -- Each clause of the contract of `a_hide_list_has_one_reading` is proved by a lemma in `proofs/HideLaws`.
-use Rattle.autfmt.specs.Texts.{lines_of}
-use Rattle.autfmt.specs.declared.limits.TheConstants.{MOST_LINES}
-use Rattle.autfmt.proofs.FirstFaults.{unique}
-use Rattle.autfmt.proofs.HideLaws.{hides, HideReads-unique}
+use Rattle.autfmt.specs.{Texts.lines_of, declared.limits.TheConstants.MOST_LINES}
+use Rattle.autfmt.proofs.{FirstFaults.unique, HideLaws.hides, HideLaws.HideReads-unique}
 use Rattle.autfmt.proofs.text_laws.a_hide_list_has_one_reading.Goals as goal
 
 pub returns-clause-labels : goal.returns-clause-labels

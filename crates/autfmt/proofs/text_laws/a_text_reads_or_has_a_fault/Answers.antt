@@ -1,8 +1,7 @@
 -- The clauses of the contract of `a_text_reads_or_has_a_fault` follow from lemmas of `proofs/FaultLaws` and
 -- `proofs/FirstFaults`.
 use Rattle.autfmt.specs.Faults.{FirstFault}
-use Rattle.autfmt.proofs.FirstFaults.{without_fault}
-use Rattle.autfmt.proofs.FaultLaws.{text_judged, Reads-no_fault}
+use Rattle.autfmt.proofs.{FirstFaults.without_fault, FaultLaws.text_judged, FaultLaws.Reads-no_fault}
 use Rattle.autfmt.proofs.text_laws.a_text_reads_or_has_a_fault.Goals as goal
 
 pub returns-clause-one : goal.returns-clause-one

@@ -3,8 +3,6 @@ use Rattle.autfmt.specs.Usual.{BeginsWithNumber}
 use Rattle.std.proofs.lemmas.List.{take_rest}
 use Rattle.autfmt.proofs.UsualLines.{number_in_front}
 use Rattle.autfmt.proofs.usual.short_number.Goals as goal
-use Rattle.autfmt.proofs.usual.short_number.Goals.{else-count-gt1-via-then-count-gt1+else-bytes-eq48}
-use Rattle.autfmt.proofs.usual.short_number.Goals.{else-count-gt1-via-else-count-gt1}
 
 pub returns-clause-number : goal.returns-clause-number
 returns-clause-number c =

@@ -1,7 +1,6 @@
 use Rattle.std.proofs.Common.{rules}
-use Rattle.autfmt.proofs.Lines.{found_from}
+use Rattle.autfmt.proofs.{Lines.found_from, UsualLines.plain_in_front, UsualLines.quoted_in_front}
 use Rattle.std.proofs.lemmas.List.{take_rest}
-use Rattle.autfmt.proofs.UsualLines.{plain_in_front, quoted_in_front}
 use Rattle.autfmt.proofs.usual.spelling_in_front.Goals as goal
 
 pub returns-in_default : goal.returns-in_default

@@ -1,6 +1,5 @@
 use Rattle.std.proofs.Common.{◌≡◌, map, take}
-use Rattle.autfmt.specs.Grammar.{is_plain}
-use Rattle.autfmt.specs.Ranks.{texts}
+use Rattle.autfmt.specs.{Grammar.is_plain, Ranks.texts}
 use Rattle.autfmt.proofs.wording.plain_labels.Given as goal
 
 abbrev pub invariant-loop-text : goal.invariant-loop-text

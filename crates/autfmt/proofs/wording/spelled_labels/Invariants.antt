@@ -1,6 +1,5 @@
 use Rattle.std.proofs.Common.{◌≡◌, length}
-use Rattle.autfmt.specs.Fronts.{AreSpelled}
-use Rattle.autfmt.specs.Ranks.{texts}
+use Rattle.autfmt.specs.{Fronts.AreSpelled, Ranks.texts}
 use Rattle.autfmt.proofs.wording.spelled_labels.Given as goal
 
 abbrev pub invariant-loop-text : goal.invariant-loop-text

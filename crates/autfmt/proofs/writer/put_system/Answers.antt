@@ -1,9 +1,7 @@
-use Rattle.std.proofs.Common.{◌≡◌, ◌<◌, length, sym, ap, ◌∙◌, subst, arith, rules}
-use Rattle.std.specs.List.{All}
+use Rattle.std.proofs.Common.{◌≡◌, ◌<◌, length, sym, ap, ◌∙◌, subst, arith, rules, All}
 use Rattle.std.proofs.lemmas.Result.{err_from_is_err_and, MatchResult-weaker}
 use Rattle.lts.specs.Lts.{before}
-use Rattle.autfmt.proofs.Ranks.{row_ranks_below}
-use Rattle.autfmt.proofs.Progress.{nothing_put}
+use Rattle.autfmt.proofs.{Ranks.row_ranks_below, Progress.nothing_put}
 use Rattle.autfmt.proofs.RowTexts.{no_row, next_row, rows_begun, rows_put}
 use Rattle.autfmt.proofs.writer.put_system.Goals as goal
 

@@ -1,7 +1,5 @@
-use Rattle.std.proofs.Common.{◌≡◌, ◌≤◌, length, take}
-use Rattle.std.specs.Vec.{vec_capacity}
-use Rattle.lts.specs.Lts.{before}
-use Rattle.lts.specs.Meter.{Costs}
+use Rattle.std.proofs.Common.{◌≡◌, ◌≤◌, length, take, vec_capacity}
+use Rattle.lts.specs.{Lts.before, Meter.Costs}
 use Rattle.autfmt.proofs.RowTexts.{RowsWait}
 use Rattle.autfmt.proofs.writer.put_system.Given as goal
 

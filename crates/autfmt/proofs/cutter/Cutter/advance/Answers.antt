@@ -1,6 +1,5 @@
-use Rattle.std.proofs.Common.{rules, ◌≡◌, ℕ, List, [], ◌++◌, sym, ◌∙◌, ap, subst}
+use Rattle.std.proofs.Common.{rules, ◌≡◌, ℕ, List, [], ◌++◌, sym, ◌∙◌, ap, subst, slice_range}
 use Rattle.std.proofs.KnownBytes.{Consumes-nil}
-use Rattle.std.specs.List.{slice_range}
 use Rattle.autfmt.specs.Cutter.{Cutting, CutsLine}
 use Rattle.autfmt.proofs.Cutting.{cut_at, line_in_piece}
 use Rattle.autfmt.proofs.cutter.Cutter.advance.Goals as goal

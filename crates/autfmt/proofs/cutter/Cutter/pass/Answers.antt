@@ -1,5 +1,4 @@
-use Rattle.std.proofs.Common.{rules, ◌≡◌, ◌∷◌, ◌++◌, ap, arith}
-use Rattle.std.specs.List.{slice_range}
+use Rattle.std.proofs.Common.{rules, ◌≡◌, ◌∷◌, ◌++◌, ap, arith, slice_range}
 use Rattle.autfmt.specs.Cutter.{Cutting}
 use Rattle.autfmt.proofs.Cutting.{passed}
 use Rattle.autfmt.proofs.cutter.Cutter.pass.Goals as goal
