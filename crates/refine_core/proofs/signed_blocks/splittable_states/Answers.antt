@@ -5,7 +5,8 @@ use Rattle.refine_core.proofs.signed_blocks.splittable_states.Goals as goal
 
 pub loop-s-preserved-then-start-end : goal.loop-s-preserved-then-start-end
 loop-s-preserved-then-start-end g c =
-    live_less c.loop-s.invariant (inr (nil_from_length _ (omega (arith, c.row-start.ensures.count, c.if-start-end.true))))
+    live_less c.loop-s.invariant
+    (inr (nil_from_length _ (omega (arith, c.row-start.ensures.count, c.if-start-end.true))))
 
 pub loop-s-preserved-then-is_singleton : goal.loop-s-preserved-then-is_singleton
 loop-s-preserved-then-is_singleton g c = live_less c.loop-s.invariant
