@@ -43,7 +43,7 @@ lines_of-onto [] more one = refl
 lines_of-onto (b ∷ front) more one =
     lines_of-byte b (front ++ more) (All-head (λ b. b ≢ 10) b front one)
     ∙ ap (onto_first b) (lines_of-onto front more (All-tail (λ b. b ≢ 10) b front one))
-        ∙ onto-more b front (lines_of more)
+    ∙ onto-more b front (lines_of more)
 
 -- Suppose that a text begins with at least one byte, and that the bytes at its beginning contain no line feed. Then the
 -- first line of the text begins with these bytes.
@@ -165,7 +165,7 @@ module _ (given got : List ℕ) (lines : List (List ℕ)) (old : Cutting) (cut :
   Divides-line line rest open_at one is more =
       HasCut-part open_at more
       ∙ rw (is, append_assoc, lines_of-feed line (rest ++ more) one)
-          (sym (append_assoc lines (line ∷ []) (lines_of (rest
+      (sym (append_assoc lines (line ∷ []) (lines_of (rest
       ++ more))))
 
   -- Suppose that the line splitter has divided the bytes `given` into the lines `lines`, reads the bytes `got`, and

@@ -141,12 +141,13 @@ marked_first places w enters (Goes t) low (inr (inr (id, stage, new, stay))) =
 
 -- Each frame belongs to a state on the stack, and records which outgoing transitions of this state are still to be
 -- read. `Reads` describes a search that has gone from `old` to `new` by reading the transitions at the places (indices)
--- less than k that the frame x records. It holds if all three of the following conditions hold. First, the search has
--- gone on from `old` to `new` (`GoesOn`). Second, `new` contains the frame x at the index i, except that the field
--- `next` of this frame is k in `new`. Third, the number of visits (reads that the meter counts) that the search with
--- the data `old` still has to make is the sum of two numbers. The first of these numbers is the number of visits that
--- the search with the data `new` still has to make. The second number is the number of visits that the search has made
--- between `old` and `new`. The number k must be at least the field `next` of x.
+-- less than k that the frame x records, where x is at the index i of the list of frames. It holds if all three of the
+-- following conditions hold. First, the search has gone on from `old` to `new` (`GoesOn`). Second, `new` contains the
+-- frame x at the index i, except that the field `next` of this frame is k in `new`. Third, the number of visits (reads
+-- that the meter counts) that the search with the data `old` still has to make is the sum of two numbers. The first of
+-- these numbers is the number of visits that the search with the data `new` still has to make. The second number is the
+-- number of visits that the search has made between `old` and `new`. The number k must be at least the field `next` of
+-- x.
 pub record Reads (u : Under) (signatures : List (List (ℕ × ℕ))) (old new : Search) (i : ℕ) (x : Frame) (k : ℕ) : Type 0
   where
     pub on : GoesOn u signatures signatures old new
@@ -166,7 +167,8 @@ pub record Stays (old new : Search) : Type 0 where
 -- `Marked` is about a search that reads the transitions that the frame x records. The search has the data `first`
 -- before it reads the first of these transitions, and it has the data `old` before it reads the transition at the place
 -- (index) k and the data `new` after this. `Marked` holds if the search has gone from `first` to `new` by reading the
--- transitions up to and including k (`Reads`), and if completed states stay completed. If the flag `enters` is false,
+-- transitions up to and including k (`Reads`), and if visited states stay visited and completed states stay completed
+-- (`KeepsVisited`). If the flag `enters` is false,
 -- no state was pushed, and `Stays` holds. If the flag `enters` is true, the value of `steps` has decreased. This value
 -- is an upper bound for the number of states that the search still pushes plus the number of frames that it still pops.
 pub record Marked (u : Under) (signatures : List (List (ℕ × ℕ))) (first old new : Search) (i : ℕ) (x : Frame) (k : ℕ)

@@ -11,8 +11,8 @@ use Rattle.signatures.specs.Lists.{pair_cmp, list_at, AreIds, Grow}
 use Rattle.partition.specs.Blocks.{IsMember}
 
 -- `HasPair` holds if the signature of the state s modulo the relation `rel` contains the pair (a, b), where a is the
--- label with the ID k, and b is a block. If a list stores this signature (`IsSignature`), it contains the pair (k, b)
--- if and only if `HasPair` holds: the field `exactly` of `IsListOf` states the same condition for any set of pairs.
+-- label with the ID k, and b is a block. A list that stores this signature (`IsSignature`) contains the pair (k, b) if
+-- and only if `HasPair` holds (see the field `exactly` of `IsListOf`).
 abbrev pub HasPair : Relation → Grouped → List ℕ → ℕ → ℕ → ℕ → Type 0
 HasPair rel l blocks s k b =
     (k < length l.labels) × Signature rel (system_of l) (slice_index blocks) s (text_of l.labels k) b

@@ -4,9 +4,9 @@ use Rattle.std.proofs.Common.{rules, ◌∙◌, ℕ, ◌+◌, ◌<◌, List, [],
 use Rattle.std.proofs.Common.{◌⊎◌, set}
 use Rattle.std.proofs.lemmas.{Grind.common_steps, List.Kept.AllPairs-from_increasing}
 use Rattle.std.proofs.lemmas.{Map.Keys.sorted_from_strictly_increasing, Map.Views.length-le_from_below, Bool.cases_lt}
-use Rattle.std.proofs.lemmas.List.{get_or_default, get_or-set_same, get_or-set_other}
+use Rattle.std.proofs.lemmas.List.{get_or_default, get_or-set_same}
 use Rattle.std.specs.List.Sorted.{IsStrictlyIncreasing}
-use Rattle.partition.specs.{Blocks.AreActive, Blocks.IsMember, Blocks.InactiveHaveNone, Splitting.IsSingleton}
+use Rattle.partition.specs.{Blocks.AreActive, Blocks.IsMember, Blocks.AreSameOrNone, Splitting.IsSingleton}
 
 -- Suppose that the list `active` is in strictly ascending order, and that all of its elements are less than s
 -- (`AreActive`). If s is appended to `active`, the longer list is in strictly ascending order, and all of its elements
@@ -49,18 +49,18 @@ live_rising xs states rises below =
 -- The active states are the states that a round processes. The loop of `without_singletons` goes through the active
 -- states, and copies some of them to the list `left`. `LeftUpTo` is the invariant of this loop after the first i active
 -- states. Each state in `left` is one of these i states. Each of these i states that is not in `left` is the only state
--- of its block, and has the empty signature. The list `left` is in strictly ascending order. Each state that is not
--- active has the empty signature (`InactiveHaveNone`).
-pub record LeftUpTo (of active : List ℕ) (i : ℕ) (signature_ids left : List ℕ) : Type 0 where
+-- of its block, and has the empty signature. The list `left` is in strictly ascending order. Each signature ID is the
+-- same as before the loop, or is 0 (`AreSameOrNone`).
+pub record LeftUpTo (of active : List ℕ) (i : ℕ) (old signature_ids left : List ℕ) : Type 0 where
   pub looks : AreActive (length of) active
   pub ascending : (states : ℕ) → ((j : ℕ) → j < i → slice_index active j < states) → AreActive states left
   pub were : (s : ℕ) → IsMember left s → (j : ℕ) × (j < i) × (slice_index active j ≡ s)
   pub are : (j : ℕ) → j < i → let s = slice_index active j in IsMember left s
       ⊎ (IsSingleton of s × (slice_index signature_ids s ≡ 0))
-  pub none : InactiveHaveNone active signature_ids
+  pub each : AreSameOrNone old signature_ids
 
-module _ {of active : List ℕ} {i : ℕ} {signature_ids left : List ℕ}
-    (more : i < length active) (up : LeftUpTo of active i signature_ids left) where
+module _ {of active : List ℕ} {i : ℕ} {old signature_ids left : List ℕ}
+    (more : i < length active) (up : LeftUpTo of active i old signature_ids left) where
   abbrev s : ℕ
   s = slice_index active i
 
@@ -68,22 +68,22 @@ module _ {of active : List ℕ} {i : ℕ} {signature_ids left : List ℕ}
   -- the list `left`. Suppose that the next active state is the only state of its block. If the loop does not copy this
   -- state, and gives it the empty signature, the invariant of the loop (`LeftUpTo`) still holds.
   pub left_without : s < length signature_ids → IsSingleton of s
-      → LeftUpTo of active (i + 1) (set signature_ids s 0) left
+      → LeftUpTo of active (i + 1) old (set signature_ids s 0) left
   left_without inside alone = let zero = get_or-set_same signature_ids s 0 0 inside in record {
     looks = up.looks;
     ascending = λ states below. up.ascending states (λ j l. below j (omega (arith, l)));
     were = λ t one. grind (arith, up.were t one);
-    are = λ j low. grind (arith, cases_lt j i, up.are j, zero, get_or-set_other);
-    none = λ t h. grind (arith, common_steps, up.none t);
+    are = search rules;
+    each = grind (arith, common_steps);
   }
 
   -- The loop goes through the active states, which are the states that a round processes, and copies some of them to
   -- the list `left`. If the loop copies the next active state, the invariant of the loop (`LeftUpTo`) still holds.
-  pub left_with : LeftUpTo of active (i + 1) signature_ids (left ++ s ∷ [])
+  pub left_with : LeftUpTo of active (i + 1) old signature_ids (left ++ s ∷ [])
   left_with = record {
     looks = up.looks;
     ascending = λ states below. grind (arith, rising_more left s (up.ascending s (λ j l. grind arith)), below i);
     were = λ t one. grind (arith, one_or left s t one, up.were t);
     are = λ j low. grind (arith, cases_lt j i, up.are j, one_stays left s (slice_index active j), one_last left s);
-    none = up.none;
+    each = up.each;
   }

@@ -89,3 +89,9 @@ pub record AreNewStates (of : List ℕ) (first_new : ℕ) (states : List ℕ) : 
 pub record DropsSingletons (of old new : List ℕ) : Type 0 where
   pub were : (s : ℕ) → IsMember new s → IsMember old s
   pub are : (s : ℕ) → IsMember old s → IsMember new s ⊎ IsSingleton of s
+
+-- The list `old` contains the signature IDs of all states before a call, and `new` contains their signature IDs after
+-- this call. `AreSameOrNone` holds if the signature ID of each state stays the same, or is 0 after the call. The ID 0
+-- is the ID of the empty signature.
+abbrev pub AreSameOrNone : List ℕ → List ℕ → Type 0
+AreSameOrNone old new = (s : ℕ) → (slice_index new s ≡ slice_index old s) ⊎ (slice_index new s ≡ 0)

@@ -52,8 +52,9 @@ unaffected_as_before rel l sys (Some old) of low some follows s h still a b =
     still_stays (system_of l) sys (slice_index old) (slice_index of)
     (λ s t ls lt e. ((follows.split s t ls lt).0 e).0) low follows.stays s h rel still a b
 
--- Suppose that the strong signature of the state s contains the ID of a new block, which is a block that the last split
--- has made. Then the signature of s is not the same as in the last round.
+-- Suppose that the blocks result from splitting the blocks of the last round (`Follows`), and that the strong signature
+-- of the state s contains the ID of a new block, which is a block that the last split has made. Then the signature of s
+-- is not the same as in the last round.
 new_not_as_before : (l : Grouped) → IsSystem (system_of l) → (old : Option (List ℕ)) (of : List ℕ) (low : ℕ)
     → Follows Strong l old of low → (s : ℕ) (a : List ℕ) (b : ℕ)
     → Signature Strong (system_of l) (slice_index of) s a b → low ≤ b → ¬ IsAsBefore Strong l old of s
@@ -186,9 +187,10 @@ IsSplitSignature rel l old of s list = ((list ≡ []) × IsAsBefore rel l old of
 
 -- The lists xs and ys are the split signatures of two states. P holds if the signature of the first state is the same
 -- as in the last round, and Q holds if the signature of the second state is the same as in the last round. X and Y hold
--- if xs and ys are the new signatures. Suppose that the signatures of the two states are equal if P and Q hold. Suppose
--- that P and Q hold for both states or for neither state if the signatures are equal. Then xs and ys are equal if and
--- only if the signatures are equal.
+-- if xs and ys are the new signatures. Suppose that three conditions hold. First, if P and Q hold, the signatures of
+-- the two states are equal. Second, if the signatures of the two states are equal, P holds if and only if Q holds.
+-- Third, if X and Y hold, xs and ys are equal if and only if the signatures of the two states are equal. Then xs and ys
+-- are equal if and only if the signatures of the two states are equal.
 equal_split_signatures : {P Q X Y Same : Type 0} {xs ys : List (ℕ × ℕ)} → (P → Q → Same) → (Same → P ↔ Q)
     → (X → Y → (xs ≡ ys) ↔ Same) → ((xs ≡ []) × P) ⊎ (¬ (xs ≡ []) × ¬ P × X)
     → ((ys ≡ []) × Q) ⊎ (¬ (ys ≡ []) × ¬ Q × Y) → (xs ≡ ys) ↔ Same

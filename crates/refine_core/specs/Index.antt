@@ -32,9 +32,10 @@ pub record HasIndex (rel : Relation) (l : Grouped) (of : List ℕ) (x : Entries)
 abbrev pub IsFoundOrSingleton : List ℕ → List ℕ → ℕ → Type 0
 IsFoundOrSingleton of found s = IsMember found s ⊎ IsSingleton of s
 
--- Let R be a condition on states. `SourcesSatisfy` holds if the sources of certain steps to the state t satisfy R. If
--- `inert` is false, the source of each step to t must satisfy R. If `inert` is true, the source of each inert step to t
--- must satisfy R. A step is inert if it is internal, and if its source and its target are in the same block.
+-- Let R be a condition on states. `SourcesSatisfy` holds if the sources of certain steps to the state t satisfy R. The
+-- list `of` contains the block ID of each state of the system `l`. If `inert` is false, the source of each step to t
+-- must satisfy R. If `inert` is true, the source of each inert step to t must satisfy R. A step is inert if it is
+-- internal, and if its source and its target are in the same block.
 abbrev pub SourcesSatisfy : Bool → Grouped → List ℕ → ℕ → (ℕ → Type 0) → Type 0
 SourcesSatisfy inert l of t R = (s : ℕ) (a : List ℕ) → Step (system_of l) s a t
     → (IsTrue inert → (a ≡ internal) × (slice_index of s ≡ slice_index of t)) → R s
@@ -63,8 +64,8 @@ IsNotLookedUp places visited t = All (λ k. ¬ (target_of (place_at places k) �
 -- `HasLookedUp` is about the step of a search that looks up transitions to the state t. The list of the found states is
 -- `before` before the step, and `found` after the step. A visit is a read of a transition that the meter counts. The
 -- list of the places (indices) of the visited transitions is `old` before the step, and `visited` after the step.
--- `HasLookedUp` holds if all three of the following conditions hold. First, after the step, the search has found the
--- source of each step to t, or only of each inert step to t if `inert` is true (`SourcesSatisfy`), except for sources
+-- `HasLookedUp` holds if all three of the following conditions hold. First, the search has then found the source of
+-- each transition to t, or only of each inert transition to t if `inert` is true (`SourcesSatisfy`), except for sources
 -- in singleton blocks. Second, the list `found` begins with the list `before`. Third, if a state s differs from t, and
 -- no transition to s was visited before the step, then no transition to s was visited during the step.
 pub record HasLookedUp (inert : Bool) (l : Grouped) (of : List ℕ) (t : ℕ) (before found old visited : List ℕ) :
@@ -87,7 +88,8 @@ pub record AreMarked (marks : List Bool) (found : List ℕ) : Type 0 where
 -- The record `at` contains a list of marks, and a list of the states that a search has found. `MarksFound` holds if
 -- all three of the following conditions hold. First, the list of marks contains one mark for each state of the system,
 -- where `states` is the number of these states. Second, the marked states are exactly the found states, and no state is
--- twice in the list of the found states (`AreMarked`). Third, the length of this list is at most `states`.
+-- twice in the list of the found states (`AreMarked`). Third, the length of this list is at most `states`, which
+-- follows from the first two conditions.
 pub record MarksFound (states : ℕ) (at : Affected) : Type 0 where
   pub size : length at.marks.items ≡ states
   pub marked : AreMarked at.marks.items at.states.items
@@ -100,7 +102,8 @@ pub record MarksFound (states : ℕ) (at : Affected) : Type 0 where
 -- contain no place twice. A visit is a read of a transition that the meter counts. Since the search began, the meter
 -- must have counted one visit for each place in `xs`, and no round. The record `start` contains the counts of the meter
 -- when the search began, and `now` contains the present counts of the meter. When the search began, the meter must have
--- had room for one visit of each transition. Since then, the meter must have counted at most this number of visits.
+-- had room for one visit of each transition. The last field states a consequence: since the search began, the meter has
+-- counted at most one visit for each transition, and no round.
 pub record SearchIsOn (l : Grouped) (of : List ℕ) (rel : Relation) (start now : Counts) (at : Affected) (xs : List ℕ) :
     Type 0 where
   pub index : HasIndex rel l of at.index

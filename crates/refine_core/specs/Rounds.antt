@@ -96,8 +96,9 @@ abbrev pub HasNewBlock : ℕ → List (ℕ × ℕ) → Type 0
 HasNewBlock first_new pairs = (z : ℕ × ℕ) × Contains pairs z × (first_new ≤ z.1)
 
 -- `IsStrongSplitSignature` holds if `list` is the split signature of the state s for strong bisimilarity. A block is
--- new if its ID is at least `first_new`. If no block ID in the signature of s is new (`MentionsOnlyOld`), `list` must
--- be empty. Otherwise, `list` must be the signature of s, and must contain the ID of a new block (`HasNewBlock`).
+-- new if its ID is at least `first_new`. If no block ID in the signature of s is new (`MentionsOnlyOld`), the signature
+-- is the same as in the last round, and `list` must be empty. Otherwise, `list` must be the signature of s, and must
+-- contain the ID of a new block (`HasNewBlock`).
 abbrev pub IsStrongSplitSignature : Grouped → List ℕ → ℕ → ℕ → List (ℕ × ℕ) → Type 0
 IsStrongSplitSignature l of first_new s list =
     ((list ≡ []) × MentionsOnlyOld Strong (system_of l) (slice_index of) first_new s)

@@ -63,6 +63,8 @@ pub struct SignedBlocks {
     /// signatures processes all states that have an outgoing transition and are not in a singleton block
     /// (`activate_all`).
     pub(crate) index: Option<Predecessors>,
+    /// The transitions that were visited in this round. When a round begins, this set is empty, because `split`, the
+    /// last step of a round, empties it.
     pub(crate) visited: Visited,
     /// If more signatures than this number are stored after a round, the next round begins by discarding all
     /// signatures. Before the predecessor index is built, this number is `u32::MAX`, so that no round discards its

@@ -33,7 +33,7 @@ pub returns-clause-header : goal.returns-clause-header
 returns-clause-header g c =
     let s = rw c.in-Line.is at c.in_ok-advance.ensures.step in
     let end = c.advance.ensures.end
-        (λ over. let open_at = fresh_open c.args.cutter.now c.requires.fresh in absurd cc) in
+    (λ over. let open_at = fresh_open c.args.cutter.now c.requires.fresh in absurd cc) in
     record {
       given = s.0;
       took = s.1;

@@ -17,7 +17,7 @@ returns-clause-taken c =
     Divides-line given [] (standing.0.header ∷ standing.0.lines) c.args.cutter.now standing.0.cut front.line _
     c.pass.ensures.open one (append-nil _ ∙ front.whole) in
     let so_far = transition_good [] standing.0 front.line _ e
-        (λ more end. divides more) front.short front.spelled among in
+    (λ more end. divides more) front.short front.spelled among in
     let added = c.in_ok-is_added.ensures.added standing.1.shown yes in
     let passed = c.pass.ensures.passed front.line _ front.whole refl in
     (e, (rw passed so_far, Holds-add _ _ _ _ es e standing.1 among added))
