@@ -28,7 +28,7 @@ use Rattle.autbis.specs.Jobs.HideListFails.{list_failed, no_memory as list_unrea
 use Rattle.autbis.specs.Runs.MinimisationFails.{not_read, out_of_memory, not_written}
 use Rattle.autbis.proofs.{Carried.all_taken, Carried.of_all, InOrder.revealed_then}
 
--- `NotBoth Good Bad` holds if no text satisfies `Good` and has the error `Bad` at the same time.
+-- `NotBoth Good Bad` holds if no text can be read (`Good`) and has an error (`Bad`) at the same time.
 abbrev pub NotBoth : {X : Type 0} → (List ℕ → X → Type 0) → (List ℕ → Fault → Type 0) → Type 0
 NotBoth {X} Good Bad = (text : List ℕ) (x : X) (f : Fault) → Good text x → ¬ Bad text f
 

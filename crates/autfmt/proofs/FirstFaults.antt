@@ -105,8 +105,8 @@ module _ {X : Type 0} {Good : List ℕ → X → Type 0} {Bad : ℕ → List ℕ
   no_long found (line ∷ others) k short (inr (none, bad)) =
       no_long (found + 1) others k (All-tail IsShort line others short) bad
 
-  -- Suppose that lines have a first error, which is not that the input ends too early. Then this error remains the
-  -- first error if further lines follow.
+  -- Suppose that lines have a first error, and that it is not the error of an input that ends too early. Then this
+  -- error remains the first error if further lines follow.
   pub stays_before : (found : ℕ) (lines more : List (List ℕ)) (f : Fault) → ((i : ℕ) → Lack i f → ⊥) →
       First found lines f → First found (lines ++ more) f
   stays_before found [] more f some bad = absurd (some found bad)
@@ -128,13 +128,14 @@ module _ {X : Type 0} {Good : List ℕ → X → Type 0} {Bad : ℕ → List ℕ
   stays f some wider found (line ∷ next ∷ lines) longer (others, e, grows) (inr (none, bad)) =
       rw e (inr (none, stays f some wider (found + 1) (next ∷ lines) others grows bad))
 
--- Suppose that lines have at most one first error (`HasFirst`), and that this error is `LineTooLong` only if some line
--- is too long. Let `given` be the bytes that have been read so far. Suppose that these bytes consist of the lines
--- `ended`, none of which is too long, and of the bytes `rest`, which can be a part of the next line (`IsPart`). Suppose
--- also that one of two conditions holds. Either `LineTooLong` is the first error of the lines `ended` and one further
--- line that is too long, or there are no bytes of the next line and the lines `ended` have no error. Then the bytes
--- `given` do not determine the first error of the whole input. If the first condition holds and further bytes make the
--- last line too long, the first error is `LineTooLong`. If no bytes follow, there is no error or another first error.
+-- Let `HasFirst lines f` state that f is the first error of the lines. Suppose that lines have at most one first error,
+-- and that this error is `LineTooLong` only if some line is too long. Let `given` be the bytes that have been read so
+-- far. Suppose that these bytes consist of the lines `ended`, none of which is too long, and of the bytes `rest`, which
+-- can be a part of the next line (`IsPart`). Suppose also that one of two conditions holds. Either `LineTooLong` is the
+-- first error of the lines `ended` and one further line that is too long, or there are no bytes of the next line and
+-- the lines `ended` have no error. Then the bytes `given` do not determine the first error of the whole input. If the
+-- first condition holds and further bytes make the last line too long, the first error is `LineTooLong`. If no bytes
+-- follow, there is no error or another first error.
 pub not_known :
     (HasFirst : List (List ℕ) → Fault → Type 0) →
     ((lines : List (List ℕ)) (f g : Fault) → HasFirst lines f → HasFirst lines g → f ≡ g) →

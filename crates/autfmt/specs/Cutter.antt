@@ -81,7 +81,8 @@ pub record Feeds (rest : Option (List ℕ)) (failures : ℕ) (at : Cutting) : Ty
 -- the list `lines`. The bytes `at.ahead` are the bytes of `given` that are not yet divided into lines, and the bytes
 -- `more` are any bytes that may follow `given` in the input. For all `more`, the lines of the whole input
 -- (`given ++ more`) must be the lines of the list `lines`, followed by the lines of `at.ahead ++ more`. If the line
--- splitter has reached the end of the input (`at.over`), no bytes follow, so `more` must be empty.
+-- splitter has reached the end of the input (`at.over`), no bytes follow, so the lines must agree only for the empty
+-- list `more`.
 abbrev pub HasCut : List ℕ → List (List ℕ) → Cutting → Type 0
 HasCut given lines at =
     (more : List ℕ) → (at.over ≡ true → more ≡ []) → lines_of (given ++ more) ≡ lines ++ lines_of (at.ahead ++ more)

@@ -14,10 +14,11 @@ use Rattle.autfmt.specs.Grammar.{Header, TransitionLine}
 use Rattle.autfmt.specs.Texts.{lines_of, IsShort, GoodHeader}
 
 -- `LineFault IsRead fault_in k bad line fault` holds if `fault` is the error of `line`, which is line k of an input.
--- The contents of a correct line are a value x such that `IsRead x` holds. There are three possible errors. First, the
--- line has more than 8192 bytes (`LONGEST_LINE`). Second, the line has no contents. In this case, `fault` is the error
--- `bad`. Third, the line has the contents x, but there is an error in x. In this case, the function `fault_in` returns
--- the error.
+-- `IsRead x` states that the line has the contents x, and `fault_in x` is the error in x, or `None` if x has no error.
+-- There are three possible errors. First, the line has more than 8192 bytes (`LONGEST_LINE`). Second, the line is not
+-- too long, but has no contents. In this case, `fault` is the error `bad`. Third, the line is not too long and has the
+-- contents x, and `fault` is the error in x. If a line is not allowed because too many lines come before it,
+-- `NextFault` defines its error.
 pub data LineFault {X : Type 0} (IsRead : X → Type 0) (fault_in : X → Option Fault) (k : ℕ) (bad : Fault)
     (line : List ℕ) (fault : Fault) : Type 0 where
   too_long : fault ≡ LineTooLong k → LONGEST_LINE < length line → LineFault IsRead fault_in k bad line fault
@@ -38,9 +39,9 @@ numbers_fault bounds (f, m, n) =
 abbrev pub HeaderFault : Bounds → List ℕ → Fault → Type 0
 HeaderFault bounds line = LineFault (λ x. Header line x.0 x.1 x.2) (numbers_fault bounds) 1 BadHeader line
 
--- `ends_fault n k (s, a, t)` is the error of the transition on line k with the label a if its source s or its target t
--- is not a state of a system with n states. The result is `None` if s and t are states of the system, which are the
--- numbers less than n.
+-- `ends_fault n k (s, a, t)` is the error in the source and the target of a transition, or `None` if there is no error.
+-- The transition is on line k, and leads from s to t with the label a. The system has n states, which are the numbers
+-- less than n. If neither s nor t is a state of the system, the result is the error of the source s.
 abbrev pub ends_fault : ℕ → ℕ → ℕ × List ℕ × ℕ → Option Fault
 ends_fault n k (s, a, t) =
     if nat_le n s then Some (SourceRange k) else if nat_le n t then Some (TargetRange k) else None
@@ -58,8 +59,10 @@ NextFault most Bad extra found line fault =
     ((found < most) × Bad found line fault) ⊎ ((most ≤ found) × (fault ≡ extra found))
 
 -- `FaultFrom Next Lack found lines fault` holds if `fault` is the first error of an input in the lines `lines`, which
--- follow `found` lines without an error. If some of the lines have an error (`Next`), `fault` is the error of the first
--- such line. If none of the lines has an error, `fault` is the error of an input that ends after these lines (`Lack`).
+-- follow `found` lines without an error. `Next found line f` states that f is the error of a line that follows `found`
+-- lines, and `Lack found f` states that f is the error of an input that ends after `found` lines. If some of the lines
+-- have an error, `fault` is the error of the first such line. If none of the lines has an error, `fault` is the error
+-- of an input that ends after these lines.
 abbrev pub FaultFrom : (ℕ → List ℕ → Fault → Type 0) → (ℕ → Fault → Type 0) → ℕ → List (List ℕ) → Fault → Type 0
 FaultFrom Next Lack found [] fault = Lack found fault
 FaultFrom Next Lack found (line ∷ others) fault =

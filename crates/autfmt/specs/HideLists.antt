@@ -19,15 +19,15 @@ Hides line a = IsShort line × HideLine line a
 abbrev pub HideReads : List ℕ → List (List ℕ) → Type 0
 HideReads text H = (lines : List (List ℕ)) × Lines text lines × (length lines ≤ MOST_LINES) × AllZip Hides lines H
 
--- `HideFault k line fault` holds if line k of a hide list (the labels to hide) is not a correct line, and `fault` is
--- the error of this line.
+-- `HideFault k line fault` holds if `line`, which is line k of a hide list (the labels to hide), is not a correct line,
+-- and `fault` is the error of this line.
 abbrev pub HideFault : ℕ → List ℕ → Fault → Type 0
 HideFault k line = LineFault (HideLine line) (λ a. None) k (BadHide k) line
 
 -- `HidesFault found lines fault` holds if `fault` is the first error of a hide list (the labels to hide) in the lines
--- `lines`, which follow `found` correct lines. Either `fault` is the error of the first incorrect line, or there are
--- too many lines. An error that lines are missing does not exist, because a hide list may have any number of lines up
--- to `MOST_LINES`.
+-- `lines`, which follow `found` correct lines. A line that follows `MOST_LINES` other lines has the error
+-- `TooManyHidden`. The end of a hide list is never an error, because a hide list may have any number of lines up to
+-- `MOST_LINES`.
 abbrev pub HidesFault : ℕ → List (List ℕ) → Fault → Type 0
 HidesFault =
     FaultFrom (NextFault MOST_LINES (λ found. HideFault (found + 1)) (λ found. TooManyHidden)) (λ found fault. ⊥)

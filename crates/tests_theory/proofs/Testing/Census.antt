@@ -59,13 +59,13 @@ is_quotient rel A Q census h d =
     quotient_passes rel A Q census.block census.pairs census.turns census.lead census.leaders parts.0 parts.1 parts.2 d
 
 -- A census describes the classes of a system, and the leaders, which are states that represent their classes. The list
--- `census` consists of triples of a system, a second system, and a census of the first system. Suppose that, in each
+-- `cases` consists of triples of a system, a second system, and a census of the first system. Suppose that, in each
 -- triple, the census is correct, and the test `divides` (is the second system the quotient of the first system?)
 -- returns true. Then, in each triple, the second system is the quotient of the first system.
 pub are_quotients :
-    (rel : Relation) (census : List (System × System × Census)) →
-    every census (λ x. and_then (is_census rel x.0 x.2) (λ _. divides rel x.0 x.2.lead x.2.leaders x.1)) ≡ true →
-    AreQuotients rel (map (λ x. (x.0, x.1)) census)
+    (rel : Relation) (cases : List (System × System × Census)) →
+    every cases (λ x. and_then (is_census rel x.0 x.2) (λ _. divides rel x.0 x.2.lead x.2.leaders x.1)) ≡ true →
+    AreQuotients rel (map (λ x. (x.0, x.1)) cases)
 are_quotients rel [] h = tt
 are_quotients rel ((A, Q, census) ∷ rest) h =
     let test = λ (x : System × System × Census). and_then (is_census rel x.0 x.2)
