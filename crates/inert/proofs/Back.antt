@@ -2,8 +2,7 @@
 -- which records that no outgoing transition is still to be read, is then popped. A component is a strongly connected
 -- set of states on the stack. If the state is the first state of a component on the stack, this component is completed.
 use Rattle.std.proofs.Common.{◌≡◌, ◌≢◌, ℕ, ◌+◌, ◌-◌, ◌<◌, ◌≤◌, List, length, slice_index, sym, ◌∙◌, ap, inl, inr, rules}
-use Rattle.std.proofs.Common.{refl, arith, take, get_or, Contains, get_or-take, length-take-le, length-append}
-use Rattle.std.specs.List.{All}
+use Rattle.std.proofs.Common.{refl, arith, take, get_or, Contains, get_or-take, length-take-le, length-append, All}
 use Rattle.std.proofs.Math.Logic.{⊎_map}
 use Rattle.std.proofs.lemmas.{Bool.cases_eq, Bool.cases_lt, Grind.common_steps, List.get_or_default}
 use Rattle.std.proofs.lemmas.{List.get_or_append_left, List.Elements.All-take, List.Elements.All-from_get_or}

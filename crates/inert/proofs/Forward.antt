@@ -3,8 +3,7 @@
 -- components, which are sets of states on the stack that can reach each other along inert transitions. Third, it pushes
 -- a state. Fourth, it marks a transition as read.
 use Rattle.std.proofs.Common.{◌≡◌, ◌≢◌, ℕ, ◌+◌, ◌<◌, List, length, slice_index, refl, inl, inr, arith, ◌-◌, ◌≤◌, rules}
-use Rattle.std.proofs.Common.{◌∙◌, ◌⊎◌, set, get_or, length-set, get_or-set_same, get_or-set_other}
-use Rattle.std.specs.List.{All}
+use Rattle.std.proofs.Common.{◌∙◌, ◌⊎◌, set, get_or, length-set, get_or-set_same, get_or-set_other, All}
 use Rattle.std.proofs.lemmas.List.{get_or_append_left, get_or_push, length_push, get_or_default}
 use Rattle.std.proofs.lemmas.List.Elements.{All-push, All-take, All-set}
 use Rattle.std.proofs.lemmas.Grind.{elements, common_steps}

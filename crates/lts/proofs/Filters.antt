@@ -1,12 +1,10 @@
 -- Lemmas about filtered lists and mapped lists: their elements and their lengths, and the result of filtering a list
 -- that was filtered or mapped before.
-use Rattle.std.proofs.Common.{get_or, ◌≡◌, Bool, true, List, [], ◌∷◌, map, Contains, refl, ap, ◌∙◌, arith}
-use Rattle.std.proofs.Common.{rules, ℕ, ◌+◌, false, cond, ◌&&◌, length}
-use Rattle.std.proofs.lemmas.Bool.{cond_both, cond-true, cond-false}
-use Rattle.std.proofs.lemmas.List.{length-map, get_or-map}
+use Rattle.std.proofs.Common.{get_or, ◌≡◌, Bool, true, List, [], ◌∷◌, map, Contains, refl, ap, ◌∙◌, arith, rules, ℕ}
+use Rattle.std.proofs.Common.{◌+◌, false, cond, ◌&&◌, length, filter, All}
+use Rattle.std.proofs.lemmas.{Bool.cond_both, Bool.cond-true, Bool.cond-false, List.length-map, List.get_or-map}
 use Rattle.std.proofs.lemmas.List.Elements.{Contains-get_or, All-contains, All-contains_itself, All-map, All-filter}
 use Rattle.std.proofs.lemmas.List.Elements.{filter_passes, All-head, All-tail}
-use Rattle.std.specs.List.{filter, All}
 use Rattle.theory.proofs.CallerLemmas.{contains_here, contains_there, contains_cases, contains_none}
 
 -- If the list xs contains the element x, then the list that results from applying the function f to each element of xs

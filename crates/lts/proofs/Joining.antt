@@ -1,22 +1,17 @@
 -- Lemmas about the disjoint union of two systems. The union is built by appending the triples (source, label ID,
 -- target) of both systems to one list, with one label table for both systems.
 use Rattle.std.proofs.Common.{rules, ◌≡◌, ◌∙◌, ℕ, suc, ◌+◌, ◌-◌, ◌<◌, ◌≤◌, List, [], ◌∷◌, ◌++◌, length, map, take, drop}
-use Rattle.std.proofs.Common.{Contains, sym, ap, subst, refl, inl, inr, arith}
-use Rattle.std.proofs.Math.Nat.{zero-add}
-use Rattle.std.proofs.lemmas.Grind.{common_steps}
-use Rattle.std.specs.List.{All}
-use Rattle.std.specs.List.Sorted.{IsNonDecreasingBy}
-use Rattle.std.proofs.lemmas.Bool.{cases_lt}
-use Rattle.std.proofs.lemmas.List.{length_push, append_assoc, map-append, map_push, take_more, get_or_push, places}
-use Rattle.std.proofs.lemmas.List.{same_lists, length-append, length-map, map-id}
+use Rattle.std.proofs.Common.{Contains, sym, ap, subst, refl, inl, inr, arith, zero-add, All, append_assoc}
+use Rattle.std.proofs.Common.{length-append, map-id}
+use Rattle.std.proofs.lemmas.{Grind.common_steps, Bool.cases_lt, List.length_push, List.map-append, List.map_push}
+use Rattle.std.proofs.lemmas.{List.take_more, List.get_or_push, List.places, List.same_lists, List.length-map}
 use Rattle.std.proofs.lemmas.List.Elements.{All-map, Contains-push, Contains-append_left}
-use Rattle.theory.specs.System.{Transition}
-use Rattle.theory.specs.Union.{shifted, union_of}
+use Rattle.std.specs.List.Sorted.{IsNonDecreasingBy}
+use Rattle.theory.specs.{System.Transition, Union.shifted, Union.union_of}
+use Rattle.lts.specs.{Meter.Counts, Meter.Costs, Union.IsJoined, Union.AddsShifted}
 use Rattle.lts.specs.Labels.{text_of, IsLabelId, IsTable, KeepsLabels, Interns}
 use Rattle.lts.specs.Lts.{Triple, source_of, label_of, target_of, place_at, transition_of, system_of, grouped, IsTriple}
 use Rattle.lts.specs.Lts.{IsLts, IsUsedLabel, Grouped, IsBuilt}
-use Rattle.lts.specs.Meter.{Counts, Costs}
-use Rattle.lts.specs.Union.{IsJoined, AddsShifted}
 use Rattle.lts.proofs.Rows.{ascending-append, ascending-map, ascending-from_map, grouped-same}
 
 -- Suppose that each label of the old label table has the same ID in the new label table. Then the triples (source,

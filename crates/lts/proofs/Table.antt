@@ -1,16 +1,13 @@
 -- Lemmas about the label table, which is modelled as a list of labels. The lemmas state what a search for a label
 -- returns, and which labels the table contains after a label was appended.
-use Rattle.std.proofs.Common.{rules, arith, ◌≡◌, ◌∙◌, ℕ, ◌<◌, false, List, [], ◌∷◌, ◌++◌, length, map, Some}
-use Rattle.std.proofs.Common.{Contains, sym, ap}
-use Rattle.std.specs.List.{list_any, position}
-use Rattle.std.specs.Str.{bytes_eq}
-use Rattle.std.proofs.lemmas.Bool.{both_ways}
-use Rattle.std.proofs.lemmas.Slice.Eq.{bytes_eq-Decides}
+use Rattle.std.proofs.Common.{rules, arith, ◌≡◌, ◌∙◌, ℕ, ◌<◌, false, List, [], ◌∷◌, ◌++◌, length, map, Some, Contains}
+use Rattle.std.proofs.Common.{sym, ap, position, bytes_eq}
+use Rattle.std.specs.List.{list_any}
+use Rattle.std.proofs.lemmas.{Bool.both_ways, Slice.Eq.bytes_eq-Decides, List.Folds.list_any_at}
 use Rattle.std.proofs.lemmas.List.{length-map, get_or-map, length_push, get_or_push, get_or_append_left}
 use Rattle.std.proofs.lemmas.List.Quantifiers.{position-Some}
 use Rattle.theory.specs.System.{IsLabel}
 use Rattle.memory.specs.declared.limits.TheConstants.{MOST_LABELS}
-use Rattle.std.proofs.lemmas.List.Folds.{list_any_at}
 use Rattle.lts.specs.Labels.{IsLabelId, IsTable}
 use Rattle.lts.proofs.Filters.{mapped_contains}
 

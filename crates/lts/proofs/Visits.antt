@@ -4,29 +4,23 @@
 -- the list of all transitions. The last lemmas are about a set of places that is stored as one bit for each place.
 use Rattle.std.proofs.Common.{rules, ◌≡◌, ◌∙◌, ◌↔◌, ℕ, suc, ◌+◌, ◌-◌, ◌<◌, ◌≤◌, Bool, true, false, not, cond, ◌&&◌, eqb}
 use Rattle.std.proofs.Common.{List, [], ◌∷◌, ◌++◌, length, map, Contains, sym, ap, subst, refl, arith, ◌*◌, ◌/◌, ◌%◌}
-use Rattle.std.proofs.Common.{◌^◌, get_or, inl, inr, slice_index_or, slice_set, w64}
-use Rattle.std.specs.Bool.{Decides}
-use Rattle.std.specs.List.{All, IsDistinct, filter, sum_by, range_with_len}
+use Rattle.std.proofs.Common.{◌^◌, get_or, inl, inr, slice_index_or, slice_set, w64, Decides, All, filter, sum_by}
+use Rattle.std.proofs.Common.{eq-eqb, ne_eqb, eqb-true, length-append, append-nil, get_or-set_same, get_or-set_other}
+use Rattle.std.proofs.Common.{bit_or}
+use Rattle.std.specs.{List.IsDistinct, List.range_with_len, Int.bit_at}
 use Rattle.std.proofs.Math.Bool.{and_comm}
-use Rattle.std.proofs.lemmas.Bool.{cases_Bool, false_from_ne_true, eq-eqb, ne_eqb, eqb-true, cases_eq}
+use Rattle.std.proofs.lemmas.{Bool.cases_Bool, Bool.false_from_ne_true, Bool.cases_eq, Cmp.nat_eq_equiv}
+use Rattle.std.proofs.lemmas.{List.Filters.length-filter_both, Map.Keys.IsDistinct-push, Map.Keys.IsDistinct-from_apart}
+use Rattle.std.proofs.lemmas.{Map.Made.is_member-Decides, Map.Made.length-IsIntersection, List.Folds.list_any-append}
 use Rattle.std.proofs.lemmas.Bool.Decides.{Decides-eqb, same_from_decides, Decides-like}
-use Rattle.std.proofs.lemmas.Cmp.{nat_eq_equiv}
-use Rattle.std.proofs.lemmas.List.{length-append, length-map, append-nil, places, same_lists, get_or-set_same}
-use Rattle.std.proofs.lemmas.List.{get_or-set_other, get_or_past, get_or_default}
+use Rattle.std.proofs.lemmas.List.{length-map, places, same_lists, get_or_past, get_or_default}
 use Rattle.std.proofs.lemmas.List.Elements.{All-contains, All-nil, All-push, filter-append, Contains-append_left}
 use Rattle.std.proofs.lemmas.List.Elements.{Contains-append_right, Contains-append_cases, Contains-push}
 use Rattle.std.proofs.lemmas.List.Elements.{Contains-push_cases, Contains-get_or}
-use Rattle.std.proofs.lemmas.List.Filters.{length-filter_both}
 use Rattle.std.proofs.lemmas.List.FromFn.{length-range_with_len, get_or-range_with_len, fill_by_all}
 use Rattle.std.proofs.lemmas.List.Sums.{length-filter, sum_by-cons, sum_by-append}
-use Rattle.std.proofs.lemmas.Map.Keys.{IsDistinct-push, IsDistinct-from_apart}
-use Rattle.std.proofs.lemmas.Map.Made.{is_member-Decides, length-IsIntersection}
-use Rattle.std.specs.Prelude.{bit_or}
-use Rattle.std.specs.Int.{bit_at}
-use Rattle.std.proofs.lemmas.List.Folds.{list_any-append}
 use Rattle.std.proofs.lemmas.Nat.Bits.{bit_at_set_same, bit_at_set_other, bit_at-zero}
-use Rattle.lts.specs.Lts.{Triple, source_of, row_of, place_at, IsRow}
-use Rattle.lts.specs.Meter.{Counts}
+use Rattle.lts.specs.{Lts.Triple, Lts.source_of, Lts.row_of, Lts.place_at, Lts.IsRow, Meter.Counts}
 use Rattle.lts.specs.Visited.{AreVisited, HasVisited, is_visited, price, price_between, remaining_of, HaveBits}
 use Rattle.lts.proofs.Filters.{filter-none, filter-whole, filter-filter, filter-map}
 

@@ -1,7 +1,6 @@
 -- Lemmas about lists that are stored as ranges (spans) of one buffer. The lemmas show what happens when another list is
 -- appended to the buffer.
-use Rattle.std.proofs.Common.{rules, ◌≡◌, ℕ, List, [], ◌∷◌, ◌++◌, length, refl, arith, length-append}
-use Rattle.std.specs.List.{All, slice_range}
+use Rattle.std.proofs.Common.{rules, ◌≡◌, ℕ, List, [], ◌∷◌, ◌++◌, length, refl, arith, length-append, All, slice_range}
 use Rattle.std.proofs.lemmas.{List.map-append, List.Elements.All-head, List.Elements.All-tail, List.Elements.All-append}
 use Rattle.refine.specs.{declared.buffer.Span.Span, Spans.signatures_in, Spans.IsSpan}
 use Rattle.signatures.proofs.CallerLemmas.{All-only, slice_range-append, slice_range-last}

@@ -5,18 +5,14 @@
 -- split signatures has the same result as a split by the signatures. For branching bisimilarity, signatures are cached
 -- from round to round. The last proofs show that, if the cached signatures are correct before a round, then they are
 -- also correct after the round.
-use Rattle.std.proofs.Common.{◌≡◌, ◌⊎◌, ◌↔◌, ◌∙◌, ℕ, ◌+◌, ◌-◌, ◌<◌, ◌≤◌, List, [], ◌++◌, length, take, map}
-use Rattle.std.proofs.Common.{slice_index, Contains, Option, None, Some, subst, sym, ap, refl, inl, inr, arith}
-use Rattle.std.proofs.lemmas.Grind.{common_steps}
+use Rattle.std.proofs.Common.{◌≡◌, ◌⊎◌, ◌↔◌, ◌∙◌, ℕ, ◌+◌, ◌-◌, ◌<◌, ◌≤◌, List, [], ◌++◌, length, take, map, slice_index}
+use Rattle.std.proofs.Common.{Contains, Option, None, Some, subst, sym, ap, refl, inl, inr, arith, take_at}
+use Rattle.std.proofs.lemmas.{Grind.common_steps, List.Elements.All-contains}
 use Rattle.std.proofs.Math.Logic.{⊎_map}
-use Rattle.std.proofs.lemmas.List.{take_at}
-use Rattle.std.proofs.lemmas.List.Elements.{All-contains}
 use Rattle.std.specs.List.Sorted.{IsStrictlySortedBy}
-use Rattle.theory.specs.System.{IsSystem}
-use Rattle.theory.specs.declared.relation.Relation.{Relation}
+use Rattle.theory.specs.{System.IsSystem, declared.relation.Relation.Relation, Blocks.Signature, Blocks.SameSignature}
+use Rattle.theory.specs.{Unaffected.HasEmptySignature, Unaffected.MentionsOnlyOld}
 use Rattle.theory.specs.declared.relation.Relation.TheVariants.{Strong, Branching}
-use Rattle.theory.specs.Blocks.{Signature, SameSignature}
-use Rattle.theory.specs.Unaffected.{HasEmptySignature, MentionsOnlyOld}
 use Rattle.theory.proofs.CallerLemmas.{empty_before, step_below, still_stays}
 use Rattle.lts.specs.Labels.{text_of, IsLabelId}
 use Rattle.lts.specs.Lts.{Grouped, Triple, target_of, before, row_of, system_of, IsTriple, IsLts}
@@ -24,8 +20,7 @@ use Rattle.lts.proofs.CallerLemmas.{labels_have_ids, before-mono, before-next, b
 use Rattle.lts.proofs.CallerLemmas.{mapped_contains, row_of-contains, row_steps}
 use Rattle.signatures.specs.Lists.{AreLists, list_at, pair_cmp}
 use Rattle.signatures.proofs.CallerLemmas.{ascending_none, ascending_unique}
-use Rattle.partition.specs.Splitting.{IsSingleton}
-use Rattle.partition.specs.Blocks.{IsMember, InactiveHaveNone}
+use Rattle.partition.specs.{Splitting.IsSingleton, Blocks.IsMember, Blocks.InactiveHaveNone}
 use Rattle.inert.specs.Signed.{CachesBeside, SignsActive, HasPair, IsListOf, IsSignature, pair_under}
 use Rattle.refine_core.specs.Rounds.{Signed, HaveSignatures, list_of, Was, IsAsBefore, Follows, HasNewBlock}
 use Rattle.refine_core.specs.Rounds.{IsStrongSplitSignature, IsReadyToSign, SignsRound}

@@ -1,8 +1,7 @@
 use Rattle.std.proofs.Common.{◌∙◌, inl, inr, refl}
 use Rattle.autbis.specs.Jobs.JobEnds.{given_up, ran}
 use Rattle.autbis.specs.Programs.AnswersWords.{job, no_job}
-use Rattle.autbis.proofs.Ending.{ends_revealed, shown_revealed}
-use Rattle.autbis.proofs.InOrder.{all_closed, given_up_fails}
+use Rattle.autbis.proofs.{Ending.ends_revealed, Ending.shown_revealed, InOrder.all_closed, InOrder.given_up_fails}
 use Rattle.autbis.proofs.job.main_program.Goals as goal
 
 pub returns-in-Err-clause-answer : goal.returns-in-Err-clause-answer

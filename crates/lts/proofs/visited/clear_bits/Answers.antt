@@ -1,5 +1,4 @@
-use Rattle.std.proofs.Common.{◌∙◌, ◌<◌, refl, length, arith}
-use Rattle.std.proofs.lemmas.List.{length-set}
+use Rattle.std.proofs.Common.{◌∙◌, ◌<◌, refl, length, arith, length-set}
 use Rattle.lts.proofs.Visits.{clears_first, clears_more, cleared, place_within}
 use Rattle.lts.proofs.visited.clear_bits.Goals as goal
 

@@ -1,16 +1,13 @@
 use Rattle.std.proofs.Common.{◌≡◌, suc, ◌*◌, [], ◌∷◌, length, slice_index, None, ap, sym, ◌∙◌, inl, inr, arith, rules}
-use Rattle.std.proofs.Math.Logic.{⊎_map}
+use Rattle.std.proofs.{Math.Logic.⊎_map, Math.Nat.suc-mul}
 use Rattle.std.proofs.lemmas.Nat.{mul-le}
-use Rattle.std.proofs.Math.Nat.{suc-mul}
 use Rattle.theory.specs.Blocks.{Turns}
-use Rattle.lts.specs.Meter.{Costs}
-use Rattle.lts.specs.Lts.{system_of}
+use Rattle.lts.specs.{Meter.Costs, Lts.system_of}
 use Rattle.refine_core.specs.Rounds.{AreAllActive, IsNextRound, AreRounds}
 use Rattle.partition.specs.Renumberings.{WereHalved}
 use Rattle.partition.proofs.CallerLemmas.{one_block}
+use Rattle.refine_core.proofs.{refinement.refine_blocks.Given.Over, refinement.refine_blocks.Goals.After-count-more}
 use Rattle.refine_core.proofs.refinement.refine_blocks.Goals as goal
-use Rattle.refine_core.proofs.refinement.refine_blocks.Given.{Over}
-use Rattle.refine_core.proofs.refinement.refine_blocks.Goals.{After-count-more}
 
 pub loop-before-init : goal.loop-before-init
 loop-before-init g c =

@@ -1,8 +1,6 @@
 use Rattle.std.proofs.Common.{ℕ, ◌*◌, ◌-◌, ◌<◌, List, length, slice_index}
-use Rattle.theory.specs.declared.relation.Relation.{Relation}
-use Rattle.theory.specs.Blocks.{Underway}
-use Rattle.lts.specs.Lts.{Grouped, system_of}
-use Rattle.lts.specs.Meter.{Counts, Costs}
+use Rattle.theory.specs.{declared.relation.Relation.Relation, Blocks.Underway}
+use Rattle.lts.specs.{Lts.Grouped, Lts.system_of, Meter.Counts, Meter.Costs}
 use Rattle.partition.specs.Renumberings.{WereHalved}
 use Rattle.refine_core.specs.Rounds.{Awaits, AreRounds}
 use Rattle.refine_core.proofs.refinement.refine_blocks.Given as goal

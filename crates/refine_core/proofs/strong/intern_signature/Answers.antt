@@ -1,7 +1,6 @@
 use Rattle.std.proofs.Common.{◌≡◌, ◌∙◌, refl, inl, inr}
 use Rattle.signatures.specs.Lists.{list_at}
-use Rattle.std.proofs.lemmas.Bool.{iff_false}
-use Rattle.std.proofs.lemmas.Result.{IfOk-weaker}
+use Rattle.std.proofs.lemmas.{Bool.iff_false, Result.IfOk-weaker}
 use Rattle.refine_core.proofs.Signatures.{row_signature, row_unaffected}
 use Rattle.refine_core.proofs.strong.intern_signature.Goals as goal
 

@@ -1,5 +1,4 @@
-use Rattle.std.proofs.Common.{◌≡◌, ◌↔◌, ◌+◌, ◌-◌, ◌≤◌, IsTrue}
-use Rattle.std.specs.Vec.{vec_len, vec_capacity}
+use Rattle.std.proofs.Common.{◌≡◌, ◌↔◌, ◌+◌, ◌-◌, ◌≤◌, IsTrue, vec_len, vec_capacity}
 use Rattle.lts.specs.Meter.{Costs}
 use Rattle.refine_core.specs.Rounds.{HasNewBlock}
 use Rattle.refine_core.proofs.Signatures.{pairs_to}

@@ -1,7 +1,5 @@
-use Rattle.std.proofs.Common.{◌≡◌, ◌↔◌, ◌+◌, ◌≤◌, IsTrue}
-use Rattle.std.specs.Vec.{vec_len, vec_capacity}
-use Rattle.lts.specs.Meter.{Costs}
-use Rattle.lts.specs.Visited.{price_between}
+use Rattle.std.proofs.Common.{◌≡◌, ◌↔◌, ◌+◌, ◌≤◌, IsTrue, vec_len, vec_capacity}
+use Rattle.lts.specs.{Meter.Costs, Visited.price_between}
 use Rattle.refine_core.specs.Rounds.{HasNewBlock}
 use Rattle.refine_core.proofs.Signatures.{pairs_to}
 use Rattle.refine_core.proofs.strong.read_unvisited.Given as goal

@@ -1,12 +1,10 @@
-use Rattle.std.proofs.lemmas.Grind.{common_steps}
-use Rattle.std.proofs.lemmas.List.{length-set, get_or_default, get_or-set_other}
 use Rattle.std.proofs.Common.{◌≡◌, ◌∙◌, ℕ, ◌+◌, ◌<◌, ◌≤◌, List, length, slice_index, set, sym, rules, arith}
+use Rattle.std.proofs.lemmas.{Grind.common_steps, List.length-set, List.get_or_default, List.get_or-set_other}
 use Rattle.signatures.specs.Lists.{list_at, Grow}
 use Rattle.partition.specs.Blocks.{AreActive, InactiveHaveNone}
 use Rattle.lts.specs.Visited.{remaining_of}
 use Rattle.lts.proofs.CallerLemmas.{before-mono, before-next, before-le}
-use Rattle.refine_core.proofs.Signatures.{row_within}
-use Rattle.refine_core.proofs.strong.sign_active.Invariants.{HasGot}
+use Rattle.refine_core.proofs.{Signatures.row_within, strong.sign_active.Invariants.HasGot}
 use Rattle.refine_core.proofs.strong.sign_active.Goals as goal
 
 -- The active states are the states that the round processes. In the following lemmas, the list `signature_ids` contains

@@ -1,7 +1,5 @@
 use Rattle.std.proofs.Common.{◌≡◌, ℕ, ◌<◌, ◌≤◌, List, length, slice_index}
-use Rattle.lts.specs.Meter.{Costs}
-use Rattle.lts.specs.Lts.{before}
-use Rattle.lts.specs.Visited.{remaining_of}
+use Rattle.lts.specs.{Meter.Costs, Lts.before, Visited.remaining_of}
 use Rattle.partition.specs.Blocks.{InactiveHaveNone}
 use Rattle.refine_core.specs.Rounds.{list_of, IsStrongSplitSignature}
 use Rattle.refine_core.proofs.strong.sign_active.Given as goal

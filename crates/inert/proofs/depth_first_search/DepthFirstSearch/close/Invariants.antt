@@ -1,5 +1,4 @@
-use Rattle.std.proofs.Common.{◌≡◌, ◌⊎◌, ℕ, ◌<◌, ◌≤◌, length, slice_index}
-use Rattle.std.specs.List.{All}
+use Rattle.std.proofs.Common.{◌≡◌, ◌⊎◌, ℕ, ◌<◌, ◌≤◌, length, slice_index, All}
 use Rattle.inert.specs.Search.{stage_at, Completed}
 use Rattle.inert.proofs.depth_first_search.DepthFirstSearch.close.Given as goal
 

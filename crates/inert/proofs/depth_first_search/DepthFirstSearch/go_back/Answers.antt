@@ -1,9 +1,8 @@
 use Rattle.std.proofs.Common.{rules, ◌≡◌, ◌≢◌, ◌∙◌, length, ap, sym, subst, arith}
 use Rattle.std.proofs.lemmas.{Grind.common_steps, List.get_or_read}
 use Rattle.inert.specs.Search.{Search, AreInternedItems}
-use Rattle.inert.proofs.depth_first_search.DepthFirstSearch.go_back.Given.{Over}
-use Rattle.inert.proofs.Invariant.{here, last, last_low}
-use Rattle.inert.proofs.Back.{popped, popped_size, popped_on, closed}
+use Rattle.inert.proofs.{depth_first_search.DepthFirstSearch.go_back.Given.Over, Invariant.here, Invariant.last}
+use Rattle.inert.proofs.{Invariant.last_low, Back.popped, Back.popped_size, Back.popped_on, Back.closed}
 use Rattle.inert.proofs.depth_first_search.DepthFirstSearch.go_back.Goals.{After-pop}
 use Rattle.inert.proofs.depth_first_search.DepthFirstSearch.go_back.Goals as goal
 

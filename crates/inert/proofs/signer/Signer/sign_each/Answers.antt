@@ -1,9 +1,7 @@
-use Rattle.std.proofs.Common.{◌≡◌, ◌∙◌}
-use Rattle.std.proofs.Math.Path.{ap₂}
+use Rattle.std.proofs.Common.{◌≡◌, ◌∙◌, ap₂}
 use Rattle.inert.specs.{Signed.CachesBeside, Steps.under, Search.cached}
-use Rattle.inert.proofs.Resting.{woken_rests, over_again, signs_active}
-use Rattle.inert.proofs.signer.Signer.sign_each.Given.{Over}
-use Rattle.inert.proofs.signer.Signer.sign_each.Goals.{After-new-lens}
+use Rattle.inert.proofs.{Resting.woken_rests, Resting.over_again, Resting.signs_active}
+use Rattle.inert.proofs.{signer.Signer.sign_each.Given.Over, signer.Signer.sign_each.Goals.After-new-lens}
 use Rattle.inert.proofs.signer.Signer.sign_each.Goals as goal
 
 module _ (g : Over) (c : After-new-lens g) where

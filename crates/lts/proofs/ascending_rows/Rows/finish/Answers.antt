@@ -1,7 +1,6 @@
 use Rattle.std.proofs.Common.{rules, ◌∙◌, map, ap, sym}
 use Rattle.lts.specs.Rows.{pair_of}
-use Rattle.lts.proofs.Rows.{grouped-same}
-use Rattle.lts.proofs.StoredRows.{rows-ended}
+use Rattle.lts.proofs.{Rows.grouped-same, StoredRows.rows-ended}
 use Rattle.lts.proofs.ascending_rows.Rows.finish.Goals as goal
 
 pub returns-clause-ends : goal.returns-clause-ends

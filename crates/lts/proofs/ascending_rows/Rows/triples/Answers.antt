@@ -1,7 +1,6 @@
 use Rattle.std.proofs.Common.{◌∙◌, List, [], ◌∷◌, ◌++◌, take, ap, sym, arith}
 use Rattle.std.proofs.lemmas.List.{take_all, take_more}
-use Rattle.lts.specs.Lts.{Triple}
-use Rattle.lts.specs.Rows.{in_rows}
+use Rattle.lts.specs.{Lts.Triple, Rows.in_rows}
 use Rattle.lts.proofs.StoredRows.{rows-length, rows-place}
 use Rattle.lts.proofs.ascending_rows.Rows.triples.Goals as goal
 

@@ -1,5 +1,4 @@
-use Rattle.std.proofs.Common.{sym, ◌∙◌}
-use Rattle.std.specs.Str.{bytes_eq}
+use Rattle.std.proofs.Common.{sym, ◌∙◌, bytes_eq}
 use Rattle.lts.proofs.Table.{absent, IsLabelId-position}
 use Rattle.std.proofs.lemmas.Map.Made.{is_some-lookup}
 use Rattle.lts.proofs.labels.Labels.find.Goals as goal

@@ -1,10 +1,9 @@
-use Rattle.std.proofs.lemmas.List.{length_push, get_or_push, get_or_append_left, map_push}
 use Rattle.std.proofs.Common.{rules, ◌≡◌, ◌∙◌, ◌<◌, length, Contains, [], ◌∷◌, ◌++◌, map, false, sym, ap, if◌then◌else◌}
-use Rattle.std.specs.List.{list_any}
-use Rattle.std.specs.Str.{bytes_eq}
+use Rattle.std.proofs.lemmas.List.{length_push, get_or_push, get_or_append_left, map_push}
+use Rattle.std.proofs.lemmas.Map.Made.{is_some-lookup}
+use Rattle.std.specs.{List.list_any, Str.bytes_eq}
 use Rattle.memory.specs.declared.limits.TheConstants.{MOST_LABELS}
 use Rattle.lts.proofs.Table.{absent, IsLabelId-position, IsTable-push}
-use Rattle.std.proofs.lemmas.Map.Made.{is_some-lookup}
 use Rattle.indexmap.proofs.SetLemmas.{keys_insert_entry}
 use Rattle.indexmap.specs.IndexMap.{keys}
 use Rattle.lts.proofs.labels.Labels.intern.Goals as goal

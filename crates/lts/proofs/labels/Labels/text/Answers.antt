@@ -1,6 +1,5 @@
 use Rattle.std.proofs.Common.{rules, ◌≡◌, ◌<◌, [], length, map, get_or, subst, sym}
-use Rattle.std.proofs.lemmas.List.{length-map, get_or-map}
-use Rattle.std.proofs.lemmas.List.Elements.{All-get_or}
+use Rattle.std.proofs.lemmas.{List.length-map, List.get_or-map, List.Elements.All-get_or}
 use Rattle.indexmap.specs.IndexMap.{keys}
 use Rattle.theory.specs.System.{IsLabel}
 use Rattle.lts.proofs.labels.Labels.text.Goals as goal

@@ -1,7 +1,5 @@
-use Rattle.std.proofs.Common.{rules}
-use Rattle.std.proofs.lemmas.Bool.{le-ltb}
-use Rattle.std.proofs.lemmas.List.{get_or_read}
-use Rattle.std.proofs.lemmas.Nat.Bits.{shr_and_one}
+use Rattle.std.proofs.Common.{rules, le-ltb}
+use Rattle.std.proofs.lemmas.{List.get_or_read, Nat.Bits.shr_and_one}
 use Rattle.lts.proofs.Visits.{first_visited, bit_tells, none_past}
 use Rattle.lts.proofs.visited.Visited.has.Goals as goal
 

@@ -1,9 +1,8 @@
 use Rattle.std.proofs.Common.{◌≡◌, ℕ, ◌/◌, ◌<◌, length, slice_index_or, refl, arith}
 use Rattle.std.proofs.lemmas.List.{get_or_read}
-use Rattle.lts.proofs.Visits.{bits_same, bit_more}
-use Rattle.lts.proofs.visited.Visited.visit.Given.{Over}
-use Rattle.lts.proofs.visited.Visited.visit.Goals as goal
+use Rattle.lts.proofs.{Visits.bits_same, Visits.bit_more, visited.Visited.visit.Given.Over}
 use Rattle.lts.proofs.visited.Visited.visit.Goals.{then-word-len+in_ok-widen, else-word-len, After-push}
+use Rattle.lts.proofs.visited.Visited.visit.Goals as goal
 
 -- The bit set assigns one bit to each place (index of a transition). The function `visit` calls `widen` if the bit set
 -- has too few words to contain the bit of the place k. Afterwards the bit set contains the bit of k, and the set of

@@ -1,5 +1,4 @@
-use Rattle.std.proofs.Common.{◌≡◌, ◌+◌, ◌-◌, take}
-use Rattle.std.specs.List.{sum_by}
+use Rattle.std.proofs.Common.{◌≡◌, ◌+◌, ◌-◌, take, sum_by}
 use Rattle.refine.specs.Search.{FindsFrom}
 use Rattle.refine.proofs.Searching.{row_length}
 use Rattle.refine.proofs.search.Search.find.Given as goal

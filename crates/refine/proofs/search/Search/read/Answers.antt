@@ -2,9 +2,7 @@ use Rattle.std.proofs.Common.{rules, ◌∙◌, ◌+◌, ◌≤◌, ◌<◌, len
 use Rattle.std.proofs.Transfers.{starts_with_length}
 use Rattle.std.proofs.lemmas.List.{get_or_read}
 use Rattle.lts.specs.{Lts.IsRow, Visited.price}
-use Rattle.refine.proofs.Searching.{went}
-use Rattle.refine.proofs.search.Search.read.Given.{Over}
-use Rattle.refine.proofs.search.Search.read.Goals.{After-row-start}
+use Rattle.refine.proofs.{Searching.went, search.Search.read.Given.Over, search.Search.read.Goals.After-row-start}
 use Rattle.refine.proofs.search.Search.read.Goals as goal
 
 -- The place of a transition is its index in the list of all transitions. Let t be the found state at the index i in the

@@ -1,5 +1,4 @@
-use Rattle.std.proofs.Common.{sym, subst, arith}
-use Rattle.std.proofs.lemmas.List.{take_at}
+use Rattle.std.proofs.Common.{sym, subst, arith, take_at}
 use Rattle.inert.specs.Signed.{SignsActive}
 use Rattle.refine_core.proofs.Signatures.{written_back, cached_beside, branching_signs}
 use Rattle.refine_core.proofs.branching.BranchingSigning.sign.Goals as goal

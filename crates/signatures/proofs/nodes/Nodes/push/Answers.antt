@@ -1,8 +1,7 @@
 use Rattle.std.proofs.Common.{rules, ◌≡◌, ℕ, ◌++◌, ◌∷◌, ◌<◌, List, [], length, ap, arith}
 use Rattle.signatures.proofs.Storing.{lists-next, IsNext, AreNodes-next, length-lists}
 use Rattle.signatures.specs.{declared.nodes.TheConstants.MOST_LISTS, declared.nodes.Node.Node, Nodes.lists_of_nodes}
-use Rattle.signatures.proofs.nodes.Nodes.push.Goals.{After-push_reserved, in-Whole+in_ok-extend_from_slice-in-Whole}
-use Rattle.signatures.proofs.nodes.Nodes.push.Goals.{in-Halved}
+use Rattle.signatures.proofs.nodes.Nodes.push.Goals.{After-push_reserved}
 use Rattle.signatures.proofs.nodes.Nodes.push.Goals as goal
 
 few : (pairs : List (ℕ × ℕ)) (nodes : List Node) {lists : List (List (ℕ × ℕ))} → lists_of_nodes pairs nodes ≡ lists

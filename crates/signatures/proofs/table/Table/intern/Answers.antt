@@ -1,11 +1,8 @@
 use Rattle.std.proofs.Common.{rules, ◌≡◌, ◌∙◌, ◌++◌, ◌∷◌, [], ap, refl}
 use Rattle.signatures.specs.{Hashed.mixed, Extensions.parts_of, Extensions.AreExtended}
+use Rattle.signatures.proofs.{Joining.Grow-same, Storing.Grow-push, table.Table.intern.Goals.In_ok-id-2}
 use Rattle.signatures.proofs.ExtendedLists.{TableGrows-from, lists-grow, AreExtended-push, extended_some}
-use Rattle.signatures.proofs.{Joining.Grow-same, Storing.Grow-push}
 use Rattle.std.proofs.lemmas.List.{map-append}
-use Rattle.signatures.proofs.table.Table.intern.Goals.{In_ok-id-2}
-use Rattle.signatures.proofs.table.Table.intern.Goals.{else-list-eq-EMPTY-via-then-list-eq-EMPTY+else-is_empty}
-use Rattle.signatures.proofs.table.Table.intern.Goals.{else-list-eq-EMPTY-via-else-list-eq-EMPTY}
 use Rattle.signatures.proofs.table.Table.intern.Goals as goal
 
 pub returns-in_err-id-clause-keeps : goal.returns-in_err-id-clause-keeps

@@ -1,8 +1,7 @@
 use Rattle.std.proofs.Common.{rules, ◌≡◌, [], sym}
 use Rattle.std.proofs.lemmas.Result.{IfOk-weaker}
 use Rattle.signatures.specs.Lists.{list_at}
-use Rattle.signatures.proofs.{Joining.IsUnion-grown, Uniting.if_both}
-use Rattle.signatures.proofs.unions.Bases.with_list.Goals.{After-deref}
+use Rattle.signatures.proofs.{Joining.IsUnion-grown, Uniting.if_both, unions.Bases.with_list.Goals.After-deref}
 use Rattle.signatures.proofs.unions.Bases.with_list.Goals as goal
 
 -- Before the call of `with`, the vector `held` contains the pairs of the list with the ID `few`.
