@@ -71,9 +71,7 @@ pub(crate) struct DepthFirstSearch {
     pub pairs: Vec<(u32, u32)>,
 }
 
-/// `Drop` is implemented explicitly to make proofs smaller and faster. A function that drops a search then contains one
-/// call, which drops the whole search. With `#[derive(Drop)]`, the function would contain one call for each field, and
-/// the proof of the function would have to treat each of these calls.
+/// `Drop` is implemented explicitly to make proofs smaller: see the cause "Drops" in `docs/changing.md`.
 impl Drop for DepthFirstSearch {
     fn drop(self) {
         let DepthFirstSearch {

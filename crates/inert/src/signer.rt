@@ -8,7 +8,7 @@ ghost use Rattle.inert.specs.Search.{stage_at, id_of, IsFinished, HasEnded};
 ghost use Rattle.inert.specs.SearchMoves.{IsAtRest, ReturnsToRest};
 ghost use Rattle.inert.specs.Steps.{under, remaining, given, FitsSystem};
 
-use crate::depth_first_search::{DepthFirstSearch, VisitState};
+use crate::depth_first_search::DepthFirstSearch;
 use crate::lens::Lens;
 use lts::{Lts, Memory, Meter, Visited};
 use partition::Blocks;
@@ -25,9 +25,7 @@ pub struct Signer {
     search: DepthFirstSearch,
 }
 
-/// `Drop` is implemented explicitly to make proofs smaller and faster. A function that drops a signer then contains one
-/// call, which drops the whole signer. With `#[derive(Drop)]`, the function would contain one call for each field, and
-/// the proof of the function would have to treat each of these calls.
+/// `Drop` is implemented explicitly to make proofs smaller: see the cause "Drops" in `docs/changing.md`.
 impl Drop for Signer {
     fn drop(self) {
         let Signer {

@@ -4,8 +4,7 @@
 //!
 //! If a call of this crate returns an error, the error is `Memory`, which means that an allocation failed.
 //!
-//! Most types implement `Drop` explicitly, so that dropping a value takes only one function call. The implementation
-//! that `#[derive(Drop)]` generates would make one call for each field.
+//! Most types implement `Drop` explicitly to make proofs smaller: see the cause "Drops" in `docs/changing.md`.
 #![tactic(auto)]
 
 mod ascending_rows;

@@ -27,9 +27,7 @@ pub struct Interner {
     table: Table,
 }
 
-/// `Drop` is implemented explicitly to make proofs smaller and faster. A function that drops an interner then contains
-/// one call, which drops the whole interner. With `#[derive(Drop)]`, the function would contain one call for each
-/// field, and the proof of the function would have to treat each of these calls.
+/// `Drop` is implemented explicitly to make proofs smaller: see the cause "Drops" in `docs/changing.md`.
 impl Drop for Interner {
     fn drop(self) {
         let Interner { bases: _, table: _ } = self;

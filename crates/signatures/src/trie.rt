@@ -31,9 +31,7 @@ pub(crate) struct Trie {
     union_cache: UnionCache,
 }
 
-/// `Drop` is implemented explicitly to make proofs smaller and faster. A function that drops a trie then contains one
-/// call, which drops the whole trie. With `#[derive(Drop)]`, the function would contain one call for each field, and
-/// the proof of the function would have to treat each of these calls.
+/// `Drop` is implemented explicitly to make proofs smaller: see the cause "Drops" in `docs/changing.md`.
 impl Drop for Trie {
     fn drop(self) {
         let Trie {
