@@ -1,4 +1,3 @@
-pub mod Carried
+pub mod Runs
 pub mod InOrder
-pub mod Comparing
 pub mod Ending

@@ -91,8 +91,6 @@ pub fn run_cmp<M: Meter, R1: Source, R2: Source, W: Sink>(
     ensures unread { IfErr result (λ f. f.side ≡ First → b.new ≡ b.old) }
     ensures untouched { IfErr result (λ _. W.failures w.new ≡ 0 → w.new ≡ w.old) }
 {
-    theory::the_order_does_not_matter();
-    theory::the_order_does_not_matter_side_by_side();
     lim.invariants();
     let first: Lts<M> = read_side(alloc, a, lim, h, Side::First)?;
     let second: Lts<M> = read_side(alloc, b, lim, h, Side::Second)?;

@@ -159,7 +159,6 @@ fn hidden_of<F: Opener, E: Write>(
     ensures unclosed { F.unclosed files.new ≤ F.unclosed files.old }
     ensures silent { OnOk result (e.new ≡ e.old) }
 {
-    autfmt::a_hide_list_reads_or_has_a_fault();
     let Some(name) = hide else {
         return Ok(Hidden::none(alloc));
     };

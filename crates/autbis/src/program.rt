@@ -43,7 +43,6 @@ pub fn min_program<R: Source, W: Sink, E: Write>(
         (E.contents e.old) (E.contents e.new) }
     ensures silent { result ≤ 1 → stats ≡ false → e.new ≡ e.old }
 {
-    autfmt::a_text_reads_or_has_a_fault();
     let mut meter = Counter::new();
     match run_min(alloc, r, w, rel, lim, h, &mut meter) {
         Ok(counts) => {
@@ -86,7 +85,6 @@ pub fn cmp_program<R1: Source, R2: Source, W: Sink, E: Write>(
     ensures unread { result ≡ 2 → (b.new ≡ b.old) ⊎ IfSome (R1.rest a.old) (IsReadable lim.now) }
     ensures silent { result ≤ 1 → e.new ≡ e.old }
 {
-    autfmt::a_text_reads_or_has_a_fault();
     match run_cmp(alloc, a, b, w, rel, lim, h, &mut Counter::new()) {
         Ok(true) => 0,
         Ok(false) => 1,

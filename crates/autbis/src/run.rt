@@ -57,10 +57,6 @@ pub fn run_min<M: Meter, R: Source, W: Sink>(
     // These clauses state what `run_min` leaves unchanged if it fails.
     ensures untouched { IfErr result (λ _. W.failures w.new ≡ 0 → w.new ≡ w.old) }
 {
-    theory::the_order_does_not_matter();
-    theory::quotient_is_a_system();
-    autfmt::a_text_reads_or_has_a_fault();
-    autfmt::text_is_read_again();
     lim.invariants();
     let system: Lts<M> = read_hiding(alloc, r, lim, h)?;
     let counts = Counts {

@@ -1,7 +1,7 @@
 use Rattle.std.proofs.Common.{◌∙◌, inl, inr, refl}
 use Rattle.autbis.specs.Jobs.JobEnds.{given_up, ran}
 use Rattle.autbis.specs.Programs.AnswersWords.{job, no_job}
-use Rattle.autbis.proofs.{Ending.ends_revealed, Ending.shown_revealed, InOrder.all_closed, InOrder.given_up_fails}
+use Rattle.autbis.proofs.{Ending.as_revealed, Ending.ends_revealed, InOrder.all_closed, InOrder.given_up_fails}
 use Rattle.autbis.proofs.job.main_program.Goals as goal
 
 pub returns-in-Err-clause-answer : goal.returns-in-Err-clause-answer
@@ -36,7 +36,7 @@ returns-in-Ok-open_job-clause-silent g c low =
         stats = stats;
         hidden = _;
         hides = is.hidden;
-        shown = shown_revealed _ _ _ _ _ (is.texts.contents _) (rw same at shown);
+        shown = (as_revealed _ _ _ (is.texts.contents _)).2 _ _ (rw same at shown);
       })
     ]
 

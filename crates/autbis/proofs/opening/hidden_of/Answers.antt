@@ -1,6 +1,10 @@
-use Rattle.std.proofs.Common.{◌∙◌, inr, rules}
-use Rattle.autbis.specs.{Files.files_used, Opened.OnlyCloses}
-use Rattle.autbis.proofs.{Ending.list_unread, InOrder.all_closed}
+use Rattle.std.proofs.Common.{◌∙◌, ap, inr, rules}
+use Rattle.autfmt.specs.HideReaders.{IsHideFault}
+use Rattle.autfmt.specs.HideOutcomes.HideRefuses.{faulty_text, failed_source, no_memory as refused_memory}
+use Rattle.autfmt.proofs.HideLaws.{HideReads-no_fault}
+use Rattle.autbis.specs.Reports.{status_of}
+use Rattle.autbis.specs.Jobs.HideListFails.{list_failed, no_memory, list_faulty}
+use Rattle.autbis.proofs.{Ending.revealed_is_faulty, Ending.revealed_then, Ending.text_status, InOrder.all_closed}
 use Rattle.autbis.proofs.opening.hidden_of.Goals as goal
 
 -- The prover could find this proof by itself, so the proof could be left out. With the proof, however, the prover
@@ -10,15 +14,19 @@ returns-in-Ok-clause-labels g c = search rules
 
 pub returns-in-Err-clause-given_up : goal.returns-in-Err-clause-given_up
 returns-in-Err-clause-given_up g c =
-    let opener = g.F.Opener in
-    let files = files_used opener.holds opener.opened opener.failures opener.lost c.args.files.now c.close.new.self in
     let others = c.close.ensures.others in
-    let closes : OnlyCloses (record files { old = _ }) =
-    record { opened = others.0; failures = others.1; holds = others.2 } in
-    let law = c.a_hide_list_reads_or_has_a_fault.ensures.not_both in
     let opened = c.in_ok-file.ensures in
     let read = c.in-Err.ensures.outcome in
-    let unread = list_unread files c.as_str.result.now _ law opened.bytes read.took
-    (λ sound. c.close.ensures.sound sound ∙ opened.none_lost) c.close.ensures.lost read.outcome in
     rw (c.in-Some.is, ← c.as_str.ensures.value, c.report.ensures.status)
-    (inr (all_closed _ closes opened.order, unread))
+    (inr (
+      all_closed _ (record { opened = others.0; failures = others.1; holds = others.2 }) opened.order,
+      elim read.outcome [
+        | faulty_text sound of_list first ↦ list_faulty (c.close.ensures.sound sound ∙ opened.none_lost)
+            (revealed_then _ _ _ opened.bytes (revealed_is_faulty HideReads-no_fault _ _ _ _ read.took first))
+            (text_status IsHideFault (λ no. no) (λ no. no) _ of_list)
+        | failed_source failed device unknown ↦
+            list_failed (λ e. cc) (c.close.ensures.lost failed) (ap status_of device)
+        | refused_memory sound memory ↦
+            no_memory (c.close.ensures.sound sound ∙ opened.none_lost) (ap status_of memory)
+      ],
+    ))

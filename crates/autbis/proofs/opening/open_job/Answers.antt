@@ -1,8 +1,8 @@
 use Rattle.std.proofs.Common.{◌≡◌, ◌∙◌, inl, option_map, string_bytes, arith}
 use Rattle.std.proofs.lemmas.Grind.{common_steps}
 use Rattle.autbis.specs.Jobs.{hide_of}
-use Rattle.autbis.proofs.{Carried.passes, opening.open_job.Given.Over}
-use Rattle.autbis.proofs.InOrder.{all_then, given_up_after, given_up_closed, refused_then}
+use Rattle.autbis.proofs.{InOrder.all_then, InOrder.given_up_between, InOrder.refused_then, Runs.passes}
+use Rattle.autbis.proofs.opening.open_job.Given.{Over}
 use Rattle.autbis.proofs.opening.open_job.Goals.{After-hidden_of, in-Min, in-Min-2}
 use Rattle.autbis.proofs.opening.open_job.Goals as goal
 
@@ -20,8 +20,8 @@ pub returns-in-Err-clause-given_up : goal.returns-in-Err-clause-given_up
 returns-in-Err-clause-given_up g c =
     let asked = asked_is g (goal.at.returns-in-Err-clause-given_up g c).After-hidden_of in
     let texts = c.in_ok-texts.ensures in
-    given_up_closed _ c.close_texts.ensures.others (c.close_texts.ensures.sound texts.texts.sound)
-    (given_up_after _ texts.order texts.none_lost (rw asked at c.in-Err.ensures.given_up))
+    given_up_between _ _ texts.order c.close_texts.ensures.others texts.none_lost
+    (c.close_texts.ensures.sound texts.texts.sound) (rw asked at c.in-Err.ensures.given_up)
 
 pub returns-in-Ok-clause-opened : goal.returns-in-Ok-clause-opened
 returns-in-Ok-clause-opened g c =

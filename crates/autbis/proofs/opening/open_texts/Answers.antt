@@ -1,6 +1,5 @@
 use Rattle.std.proofs.Common.{[], ◌∷◌, string_bytes}
-use Rattle.autbis.specs.{Files.files_used, Opened.OnlyCloses}
-use Rattle.autbis.proofs.{Carried.passes, InOrder.refused_after, InOrder.refused_closed, InOrder.refused_then}
+use Rattle.autbis.proofs.{InOrder.refused_between, InOrder.refused_then, Runs.passes}
 use Rattle.autbis.proofs.opening.open_texts.Goals as goal
 
 pub returns-in_err-first-in-Cmp-clause-order : goal.returns-in_err-first-in-Cmp-clause-order
@@ -11,8 +10,6 @@ returns-in_err-first-in-Cmp-clause-order g c =
 pub returns-in-Err-clause-order : goal.returns-in-Err-clause-order
 returns-in-Err-clause-order g c =
     let others = c.close.ensures.others in
-    let opener = g.F.Opener in
-    let files = files_used opener.holds opener.opened opener.failures opener.lost _ c.close.new.self in
-    let closes : OnlyCloses files = record { opened = others.0; failures = others.1; holds = others.2 } in
     rw (c.in-Cmp.is, ← c.as_str-in-Cmp.ensures.value, ← c.as_str-in-Cmp-2.ensures.value)
-    (refused_closed _ closes (refused_after _ c.in_ok-first-in-Cmp.ensures.order c.in-Err.ensures.order))
+    (refused_between _ _ c.in_ok-first-in-Cmp.ensures.order
+    (record { opened = others.0; failures = others.1; holds = others.2 }) c.in-Err.ensures.order)

@@ -1,5 +1,4 @@
 use Rattle.std.proofs.Common.{rules}
-use Rattle.autbis.specs.Runs.{asks, used}
 use Rattle.autbis.proofs.Ending.{ends_minimised, ends_run}
 use Rattle.autbis.proofs.program.min_program.Goals as goal
 
@@ -17,7 +16,4 @@ returns-else-stats-clause-ends g c =
 pub returns-in-Err-clause-ends : goal.returns-in-Err-clause-ends
 returns-in-Err-clause-ends g c =
     let got = c.in-Err.ensures.outcome in
-    rw c.report.ensures.status (ends_run (asks c.args.rel c.args.lim.now c.args.h.now)
-    (c.a_text_reads_or_has_a_fault.ensures.not_both c.args.lim.now)
-    (used g.W.Sink.written g.W.Sink.failures c.args.w.now c.run_min.new.w) got.took
-    c.in-Err.ensures.untouched got.outcome)
+    rw c.report.ensures.status (ends_run got.took c.in-Err.ensures.untouched got.outcome)
