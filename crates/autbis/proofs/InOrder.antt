@@ -1,6 +1,6 @@
 -- An opener is an object that opens files by their names. The lemmas in this file are about several calls of an opener,
 -- which open files one after the other, or close files.
-use Rattle.std.proofs.Common.{rules, ◌≤◌, ℕ, List, ◌++◌, Option, Some, ◌∙◌, ap, sym, append_assoc, arith, inl, inr}
+use Rattle.std.proofs.Common.{rules, ◌≡◌, ◌≤◌, ℕ, List, ◌++◌, Option, Some, ◌∙◌, ap, sym, append_assoc, arith, inl, inr}
 use Rattle.std.proofs.lemmas.Option.{IfSome_then}
 use Rattle.autbis.specs.{Jobs.IsGivenUp, Opened.OnlyCloses}
 use Rattle.autbis.specs.Files.{FilesUsed, HasAll, HasLostNone, IsRefused, Name, Opens}
@@ -18,14 +18,10 @@ opens_then old mid new first more a b =
 -- the longer list `first ++ more`.
 pub refused_then : {F : Type 0} {files : FilesUsed F} {first : List Name} (more : List Name) {status : ℕ} →
     IsRefused files first status → IsRefused files (first ++ more) status
-refused_then more is = record {
-  asked = is.asked;
-  later = is.later ++ more;
-  opens = is.opens;
-  in_order = ap (λ names. names ++ more) is.in_order ∙ append_assoc is.asked is.later more;
-  failed = is.failed;
-  exit = is.exit;
-}
+refused_then {first = first} more is =
+    let whole : first ++ more ≡ is.asked ++ (is.later ++ more) =
+    ap (λ names. names ++ more) is.in_order ∙ append_assoc is.asked is.later more in
+    search (rules, is, whole)
 
 -- `HasAll` holds for a list of files if all these files were opened. Suppose that all files in the list `first` were
 -- opened, and that all files in the list `more` were opened after them. Then `HasAll` holds for the list `first ++
@@ -52,14 +48,10 @@ module _ {F : Type 0} {files : FilesUsed F} {first more : List Name} {status : �
   -- `more`, then `IsRefused` holds for all calls together and the list `first ++ more`.
   pub refused_between : IsRefused (record files { old = mid; new = last }) more status →
       IsRefused files (first ++ more) status
-  refused_between is = record {
-    asked = first ++ is.asked;
-    later = is.later;
-    opens = rw only.opened (opens_then _ _ _ first is.asked all.opens is.opens);
-    in_order = ap (λ names. first ++ names) is.in_order ∙ sym (append_assoc first is.asked is.later);
-    failed = only.failures ∙ is.failed;
-    exit = is.exit;
-  }
+  refused_between is =
+      let whole : first ++ more ≡ (first ++ is.asked) ++ is.later =
+      ap (λ names. first ++ names) is.in_order ∙ sym (append_assoc first is.asked is.later) in
+      search (rules, is, whole, only, opens_then, all.opens, is.opens)
 
   -- `IsGivenUp` holds if a job (the task that the command line asks for) ended early. The reason is that one of its
   -- files could not be opened, or that the hide list (the file with the labels to hide) could not be read. Suppose that
