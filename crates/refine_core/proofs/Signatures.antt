@@ -38,41 +38,41 @@ written_back of active signature_ids rest n all states none = rw (take_at signat
 -- contains no ID of a new block, and for branching bisimilarity s is not in a new block either (`MentionsOnlyOld`),
 -- then the signature of s is the same as in the last round.
 pub unaffected_as_before : (rel : Relation) (l : Grouped) → IsSystem (system_of l) → (old : Option (List ℕ))
-    (of : List ℕ) (low : ℕ) → (rel ≡ Branching → ¬ (old ≡ None)) → Follows rel l old of low → (s : ℕ) → s < l.states
-    → MentionsOnlyOld rel (system_of l) (slice_index of) low s → IsAsBefore rel l old of s
-unaffected_as_before Strong l sys None of low some follows s h still a b =
+    (of : List ℕ) (first_new : ℕ) → (rel ≡ Branching → ¬ (old ≡ None)) → Follows rel l old of first_new → (s : ℕ)
+    → s < l.states → MentionsOnlyOld rel (system_of l) (slice_index of) first_new s → IsAsBefore rel l old of s
+unaffected_as_before Strong l sys None of first_new some follows s h still a b =
     (λ can. absurd (omega (arith, still.1 a b can, follows refl)), λ none. absurd none)
-unaffected_as_before Branching l sys None of low some follows s h still a b = absurd (some refl refl)
-unaffected_as_before rel l sys (Some old) of low some follows s h still a b =
+unaffected_as_before Branching l sys None of first_new some follows s h still a b = absurd (some refl refl)
+unaffected_as_before rel l sys (Some old) of first_new some follows s h still a b =
     still_stays (system_of l) sys (slice_index old) (slice_index of)
-    (λ s t ls lt e. ((follows.split s t ls lt).0 e).0) low follows.stays s h rel still a b
+    (λ s t ls lt e. ((follows.split s t ls lt).0 e).0) first_new follows.stays s h rel still a b
 
 -- Suppose that the blocks result from splitting the blocks of the last round (`Follows`), and that the strong signature
 -- of the state s contains the ID of a new block, which is a block that the last split has made. Then the signature of s
 -- is not the same as in the last round.
-new_not_as_before : (l : Grouped) → IsSystem (system_of l) → (old : Option (List ℕ)) (of : List ℕ) (low : ℕ)
-    → Follows Strong l old of low → (s : ℕ) (a : List ℕ) (b : ℕ)
-    → Signature Strong (system_of l) (slice_index of) s a b → low ≤ b → ¬ IsAsBefore Strong l old of s
-new_not_as_before l sys None of low follows s a b can new same = (same a b).0 can
-new_not_as_before l sys (Some old) of low follows s a b can new same = let (u, was, is) = (same a b).0 can in
+new_not_as_before : (l : Grouped) → IsSystem (system_of l) → (old : Option (List ℕ)) (of : List ℕ) (first_new : ℕ)
+    → Follows Strong l old of first_new → (s : ℕ) (a : List ℕ) (b : ℕ)
+    → Signature Strong (system_of l) (slice_index of) s a b → first_new ≤ b → ¬ IsAsBefore Strong l old of s
+new_not_as_before l sys None of first_new follows s a b can new same = (same a b).0 can
+new_not_as_before l sys (Some old) of first_new follows s a b can new same = let (u, was, is) = (same a b).0 can in
     omega (arith, follows.below u (step_below (system_of l) sys s a u was).1, is, new)
 
 -- Suppose that the blocks result from splitting the blocks of the last round (`Follows`), and that two states share a
 -- block. Then the two states had equal signatures in the last round. If the block IDs of the last round are not known
 -- (`old` is `None`), all signatures in the last round are taken to be empty.
-was_alike : (rel : Relation) (l : Grouped) (old : Option (List ℕ)) (of : List ℕ) (low : ℕ) → Follows rel l old of low
-    → (s t : ℕ) → s < l.states → t < l.states → slice_index of s ≡ slice_index of t
+was_alike : (rel : Relation) (l : Grouped) (old : Option (List ℕ)) (of : List ℕ) (first_new : ℕ)
+    → Follows rel l old of first_new → (s t : ℕ) → s < l.states → t < l.states → slice_index of s ≡ slice_index of t
     → (a : List ℕ) (b : ℕ) → Was rel l old s a b ↔ Was rel l old t a b
-was_alike rel l None of low was s t ls lt one a b = (λ h. h, λ h. h)
-was_alike rel l (Some old) of low was s t ls lt one a b = ((was.split s t ls lt).0 one).1 a b
+was_alike rel l None of first_new was s t ls lt one a b = (λ h. h, λ h. h)
+was_alike rel l (Some old) of first_new was s t ls lt one a b = ((was.split s t ls lt).0 one).1 a b
 
 -- Suppose that the blocks result from splitting the blocks of the last round (`Follows`), and that the branching
 -- signature of a state is empty. Then the branching signature of this state in the last round was empty, too.
-empty_was : (l : Grouped) → IsLts l → (old : Option (List ℕ)) (of : List ℕ) (low : ℕ)
-    → Follows Branching l old of low → (s : ℕ) → s < l.states → HasEmptySignature (system_of l) (slice_index of) s
-    → (a : List ℕ) (b : ℕ) → ¬ Was Branching l old s a b
-empty_was l lts None of low was s ls none = λ a b h. h
-empty_was l lts (Some old) of low was s ls none =
+empty_was : (l : Grouped) → IsLts l → (old : Option (List ℕ)) (of : List ℕ) (first_new : ℕ)
+    → Follows Branching l old of first_new → (s : ℕ) → s < l.states
+    → HasEmptySignature (system_of l) (slice_index of) s → (a : List ℕ) (b : ℕ) → ¬ Was Branching l old s a b
+empty_was l lts None of first_new was s ls none = λ a b h. h
+empty_was l lts (Some old) of first_new was s ls none =
     empty_before (system_of l) lts.system (slice_index old) (slice_index of)
     (λ s t ls lt e. ((was.split s t ls lt).0 e).0) s ls none
 

@@ -144,13 +144,13 @@ pub record IsAtRound (rel : Relation) (l : Grouped) (old : Option (List ℕ)) (r
 -- `Awaits` holds if r, the data of a round (`Signed`), is ready for a new round. The data r must satisfy `IsAtRound`.
 -- The field `old` contains the block IDs of all states in the last round, or is `None` if no round has run yet. If
 -- there is a predecessor index, a round must have run before, and for branching bisimilarity, the signatures of the
--- last round must be cached (`CachesIds`). No transition may have been visited in the new round (`none`).
+-- last round must be cached (`CachesIds`). No transition may have been visited in the new round (`unvisited`).
 pub record Awaits (rel : Relation) (l : Grouped) (r : Signed) : Type 0 where
   pub old : Option (List ℕ)
   pub is : IsAtRound rel l old r
   pub later : ¬ (r.index ≡ None) → ¬ (old ≡ None)
       × (rel ≡ Branching → CachesIds l r.blocks.block_ids r.signatures r.cached old)
-  pub none : r.visited ≡ []
+  pub unvisited : r.visited ≡ []
 
 -- `IsReadyToSign` holds if r, the data of a round (`Signed`), is ready for computing the signatures of the active
 -- states. The active states are the states that the round processes. The data r must satisfy `IsAtRound`. The field

@@ -25,7 +25,7 @@ loop-before-init g c =
           index = rw c.in_ok-round.ensures.absent tt;
         };
         later = λ some. absurd (some c.in_ok-round.ensures.absent);
-        none = c.in_ok-round.ensures.none;
+        unvisited = c.in_ok-round.ensures.none;
       };
       made = rw is
           (record { rounds = 0; fewer = omega arith; past = []; were = (one, tt); underway = on; costs = omega arith });
@@ -43,7 +43,7 @@ next_round-requires-clause-ready_for_round g c =
       | inr other ↦ inr other
     ] in
     let same = c.in_ok-before.ensures.same in
-    rw same (record { old = a.old; is = search (rules, a.is, all); later = a.later; none = a.none })
+    rw same (record { old = a.old; is = search (rules, a.is, all); later = a.later; unvisited = a.unvisited })
 
 pub next_round-requires-clause-room : goal.next_round-requires-clause-room
 next_round-requires-clause-room g c =

@@ -12,7 +12,7 @@ returns-then-len-round-clause-begun g c = IfOk-weaker c.activate_all.result _ _
 
 pub returns-then-len-round-clause-visited : goal.returns-then-len-round-clause-visited
 returns-then-len-round-clause-visited g c = IfOk-weaker c.activate_all.result _ _
-    (λ r same. none_visited _ _ _ (same ∙ c.requires.ready_for_round.none))
+    (λ r same. none_visited _ _ _ (same ∙ c.requires.ready_for_round.unvisited))
     c.activate_all.ensures.visited
 
 -- Suppose that there was no predecessor index, and that the call of `begin_index`, which may build the index, has
