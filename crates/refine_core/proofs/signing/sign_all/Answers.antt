@@ -1,4 +1,4 @@
-use Rattle.std.proofs.Common.{◌∙◌, inl, refl, None}
+use Rattle.std.proofs.Common.{◌∙◌, inl, None}
 use Rattle.lts.proofs.CallerLemmas.{none_visited}
 use Rattle.refine_core.proofs.Rounds.{ready_all}
 use Rattle.refine_core.proofs.signing.sign_all.Goals as goal
@@ -9,7 +9,7 @@ sign_and_visit_rest-requires-clause-ready g c =
     let is = c.in_ok-round.ensures.same.0 ∙ c.in_ok-new.ensures.blocks in
     ready_all _ _ None _ (rw is c.requires.states) (λ _. rw is c.requires.new)
     (λ s h. inl (rw is (c.requires.active s h))) (rw (c.in_ok-round.ensures.same.1, c.in_ok-new.ensures.absent) tt)
-    (λ branching. (refl, c.in_ok-round.ensures.discarded branching))
+    c.in_ok-round.ensures.discarded
 
 pub sign_and_visit_rest-requires-clause-visited : goal.sign_and_visit_rest-requires-clause-visited
 sign_and_visit_rest-requires-clause-visited g c = rw c.visits-start.ensures
