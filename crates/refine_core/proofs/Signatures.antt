@@ -5,8 +5,8 @@
 -- split signatures has the same result as a split by the signatures. For branching bisimilarity, signatures are cached
 -- from round to round. The last proofs show that, if the cached signatures are correct before a round, then they are
 -- also correct after the round.
-use Rattle.std.proofs.Common.{◌≡◌, ◌⊎◌, ◌↔◌, ◌∙◌, ℕ, ◌+◌, ◌-◌, ◌<◌, ◌≤◌, List, [], ◌++◌, length, take, map, slice_index}
-use Rattle.std.proofs.Common.{Contains, Option, None, Some, subst, sym, ap, refl, inl, inr, arith, take_at}
+use Rattle.std.proofs.Common.{◌≡◌, ◌⊎◌, ◌↔◌, ◌∙◌, ℕ, ◌+◌, ◌<◌, ◌≤◌, List, [], length, map, slice_index}
+use Rattle.std.proofs.Common.{Contains, Option, None, Some, subst, sym, ap, refl, inl, inr, arith}
 use Rattle.std.proofs.lemmas.{Grind.common_steps, List.Elements.All-contains}
 use Rattle.std.proofs.Math.Logic.{⊎_map}
 use Rattle.std.specs.List.Sorted.{IsStrictlySortedBy}
@@ -24,14 +24,6 @@ use Rattle.partition.specs.{Splitting.IsSingleton, Blocks.IsMember, Blocks.Inact
 use Rattle.inert.specs.Signed.{CachesBeside, SignsActive, HasPair, IsListOf, IsSignature, pair_under}
 use Rattle.refine_core.specs.Rounds.{Signed, HaveSignatures, list_of, Was, IsAsBefore, Follows, HasNewBlock}
 use Rattle.refine_core.specs.Rounds.{IsStrongSplitSignature, IsReadyToSign, SignsRound}
-
--- Suppose that the list `signature_ids` contains a signature ID for each state, and the ID of the empty signature for
--- each state that is not active (not processed by the round). Suppose that further elements are appended to this list.
--- Then the first n elements of the longer list satisfy these two conditions, too, if n is the number of states.
-pub written_back : (of active signature_ids rest : List ℕ) (n : ℕ) → length signature_ids ≡ n
-    → length signature_ids ≡ length of → InactiveHaveNone active signature_ids
-    → (length (take n (signature_ids ++ rest)) ≡ length of) × InactiveHaveNone active (take n (signature_ids ++ rest))
-written_back of active signature_ids rest n all states none = rw (take_at signature_ids rest n all) (states, none)
 
 -- Suppose that the blocks result from splitting the blocks of the last round (`Follows`). For branching bisimilarity,
 -- suppose also that the signatures have not been discarded since the last round. If the signature of the state s
@@ -127,26 +119,24 @@ module _ (l : Grouped) (blocks : List ℕ) (s : ℕ) (h : IsLts l) where
   abbrev pairs : List (ℕ × ℕ)
   pairs = map (pair_under blocks) (row_of s l.places)
 
-  -- Suppose that a pair is in the strong signature of the state s. Then it is the pair of some transition of s.
-  pair_has : (k b : ℕ) → HasPair Strong l blocks s k b → Contains pairs (k, b)
-  pair_has k b has =
-      let found = (row_steps l s (text_of l.labels k) has.1.0).0 has.1.1 in
-      grind (arith, common_steps, h.table.different, contains_mapped)
-
-  -- The pair of each transition of the state s is in the strong signature of s.
-  has : (z : ℕ × ℕ) → Contains pairs z → HasPair Strong l blocks s z.0 z.1
-  has z c =
-      let (e, at, is) = mapped_contains (pair_under blocks) (row_of s l.places) z c in
-      let listed = ((row_of-contains s l.places e).0 at).0 in
-      let triple = All-contains (IsTriple (length l.labels) l.states) l.places e h.in_range.each listed in
-      rw (sym is) (triple.label, (target_of e, (row_steps l s _ (target_of e)).1 (e, at, refl, refl), refl))
+  -- A pair is in the strong signature of the state s if and only if it is the pair of some transition of s.
+  pair_is : (z : ℕ × ℕ) → Contains pairs z ↔ HasPair Strong l blocks s z.0 z.1
+  pair_is z = (
+    λ c.
+        let (e, at, is) = mapped_contains (pair_under blocks) (row_of s l.places) z c in
+        let listed = ((row_of-contains s l.places e).0 at).0 in
+        let triple = All-contains (IsTriple (length l.labels) l.states) l.places e h.in_range.each listed in
+        rw (sym is) (triple.label, (target_of e, (row_steps l s _ (target_of e)).1 (e, at, refl, refl), refl)),
+    λ has. let found = (row_steps l s (text_of l.labels z.0) has.1.0).0 has.1.1 in
+        grind (arith, common_steps, h.table.different, contains_mapped),
+  )
 
   -- Suppose that the list zs contains exactly the pairs of the transitions of the state s, in strictly ascending order.
   -- Then zs is the strong signature of s.
   pub row_signature : (zs : List (ℕ × ℕ)) → IsStrictlySortedBy pair_cmp zs
       → ((z : ℕ × ℕ) → Contains zs z ↔ Contains pairs z) → IsSignature Strong l blocks s zs
   row_signature zs ascending same = record {
-    exactly = λ k b. (λ c. has (k, b) ((same (k, b)).0 c), λ p. (same (k, b)).1 (pair_has k b p));
+    exactly = λ k b. grind (arith, same (k, b), pair_is (k, b));
     ascending = ascending;
   }
 
@@ -158,16 +148,9 @@ module _ (l : Grouped) (blocks : List ℕ) (s : ℕ) (h : IsLts l) where
     λ is. absurd cc,
     λ a b can.
         let (k, number) = labels_have_ids l s a can.0 h can.1 in
-        let c = pair_has k b (number.below, rw number.text can) in
+        let c = (pair_is (k, b)).1 (number.below, rw number.text can) in
         let apart : ¬ (first_new ≤ b) = λ new. none ((k, b), c, new) in omega (arith, apart),
   )
-
--- The place of a transition is its index in the list of all transitions. The transitions of the state s follow each
--- other in this list, and the first of them has the place `start`. The pair of a transition consists of its label ID
--- and the block ID of its target. The list `pairs_to k` contains the pairs of those transitions of s whose places are
--- less than k.
-abbrev pub pairs_to : List ℕ → List Triple → ℕ → ℕ → ℕ → List (ℕ × ℕ)
-pairs_to blocks places s start k = map (pair_under blocks) (take (k - start) (row_of s places))
 
 -- The list es contains transitions, and `before s es` is the number of those whose source is less than s. Suppose that
 -- `next` is at most s. Then `before next es` plus the number of the transitions from s is at most the length of es.
@@ -189,12 +172,7 @@ IsSplitSignature rel l old of s list = ((list ≡ []) × IsAsBefore rel l old of
 equal_split_signatures : {P Q X Y Same : Type 0} {xs ys : List (ℕ × ℕ)} → (P → Q → Same) → (Same → P ↔ Q)
     → (X → Y → (xs ≡ ys) ↔ Same) → ((xs ≡ []) × P) ⊎ (¬ (xs ≡ []) × ¬ P × X)
     → ((ys ≡ []) × Q) ⊎ (¬ (ys ≡ []) × ¬ Q × Y) → (xs ≡ ys) ↔ Same
-equal_split_signatures both either listed (inl p) (inl q) = (λ e. both p.1 q.1, λ same. p.0 ∙ sym q.0)
-equal_split_signatures both either listed (inl p) (inr q) =
-    (λ e. absurd (q.0 (sym e ∙ p.0)), λ same. absurd (q.1 ((either same).0 p.1)))
-equal_split_signatures both either listed (inr p) (inl q) =
-    (λ e. absurd (p.0 (e ∙ q.0)), λ same. absurd (p.1 ((either same).1 q.1)))
-equal_split_signatures both either listed (inr p) (inr q) = listed p.2 q.2
+equal_split_signatures both either listed x y = grind (arith, both, either, listed, x, y)
 
 -- Let r be the data of a round (`Signed`) that is ready for computing signatures (`IsReadyToSign`). The following
 -- lemmas assume that, for each active state (each state that the round processes), `signature_ids` contains the ID of

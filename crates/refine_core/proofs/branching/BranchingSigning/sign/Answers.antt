@@ -1,6 +1,6 @@
-use Rattle.std.proofs.Common.{sym, subst, arith, take_at}
+use Rattle.std.proofs.Common.{◌≡◌, length, sym, subst, arith, take_at}
 use Rattle.inert.specs.Signed.{SignsActive}
-use Rattle.refine_core.proofs.Signatures.{written_back, cached_beside, branching_signs}
+use Rattle.refine_core.proofs.Signatures.{cached_beside, branching_signs}
 use Rattle.refine_core.proofs.branching.BranchingSigning.sign.Goals as goal
 
 pub sign_each-requires-clause-cached : goal.sign_each-requires-clause-cached
@@ -9,9 +9,8 @@ sign_each-requires-clause-cached g c =
 
 pub invariant_of-round : goal.invariant_of-round
 invariant_of-round g c =
-    let old = c.round.inside.blocks in
-    written_back old.block_ids old.active c.sign_each.new.signature_ids _ _ (omega arith)
-    (omega (arith, c.round.invariant.0)) c.sign_each.ensures.others
+    let size : length c.sign_each.new.signature_ids ≡ c.round.inside.signature_ids.len = omega arith in
+    rw take_at (omega (arith, c.round.invariant.0), c.sign_each.ensures.others)
 
 pub returns-clause-signed : goal.returns-clause-signed
 returns-clause-signed g c =
