@@ -1,6 +1,5 @@
 use Rattle.std.proofs.Common.{◌≡◌, suc, ◌*◌, [], ◌∷◌, length, slice_index, None, ap, sym, ◌∙◌, inl, inr, arith, rules}
-use Rattle.std.proofs.{Math.Logic.⊎_map, Math.Nat.suc-mul}
-use Rattle.std.proofs.lemmas.Nat.{mul-le}
+use Rattle.std.proofs.{Math.Logic.⊎_map, Math.Nat.suc-mul, lemmas.Nat.mul-le}
 use Rattle.theory.specs.Blocks.{Turns}
 use Rattle.lts.specs.{Meter.Costs, Lts.system_of}
 use Rattle.refine_core.specs.Rounds.{AreAllActive, IsNextRound, AreRounds}
