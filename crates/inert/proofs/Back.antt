@@ -6,7 +6,7 @@ use Rattle.std.proofs.Common.{refl, arith, take, get_or, Contains, get_or-take, 
 use Rattle.std.proofs.Math.Logic.{⊎_map}
 use Rattle.std.proofs.lemmas.{Bool.cases_eq, Bool.cases_lt, Grind.common_steps, List.get_or_default}
 use Rattle.std.proofs.lemmas.{List.get_or_append_left, List.Elements.All-take, List.Elements.All-from_get_or}
-use Rattle.lts.specs.Lts.{source_of, place_at, IsLts}
+use Rattle.lts.specs.{Lts.source_of, Lts.place_at, Lts.IsLts, Meter.Counts}
 use Rattle.signatures.specs.Lists.{list_at}
 use Rattle.signatures.proofs.CallerLemmas.{Grow-same}
 use Rattle.inert.specs.Steps.{Under, remaining}
@@ -14,7 +14,7 @@ use Rattle.inert.specs.Search.{Search, stage_at, frame_at, IsToBeRead, IsBeingSe
 use Rattle.inert.specs.Search.{Laws, item_at, BelongsTo, IsNotBelow, IsRoot, IsInternedItem, IsFrame, AreFrames}
 use Rattle.inert.specs.Search.{AreHandled, ComponentHasPair, AreOpen, IsSigned, IsSound, Root, Pair, Interned}
 use Rattle.inert.specs.Search.{is_unvisited, unseen, KeepsVisited, rest}
-use Rattle.inert.specs.SearchMoves.{HasRead, Closes, ahead, SignsMore, GoesOn}
+use Rattle.inert.specs.SearchMoves.{HasRead, Closes, SignsMore, GoesOn}
 use Rattle.inert.proofs.Invariant.{no_frame, here, last, no_root, IsBefore, AllPairs-take, All-from_take, kept_still}
 use Rattle.inert.proofs.Invariant.{KeepsStack, roots_kept, accounted_still, sound_still, AreSound, stays_on}
 use Rattle.inert.proofs.Invariant.{unseen-same, unread-same, rest-cut, reached, on_stack, not_last, last_most}
@@ -89,8 +89,8 @@ module _ {u : Under} {signatures : List (List (ℕ × ℕ))} {w : Search} (walks
     -- records which outgoing transitions of this state are still to be read. Suppose that all outgoing transitions of
     -- the state to which the last frame belongs were read, and that this state is not the first state of a component on
     -- the stack. If the search then removes the last frame, the invariant of the search still holds (`GoesOn`).
-    pub popped_on : GoesOn u signatures signatures w (popped w)
-    popped_on = stays_on SearchInvariant-pop refl
+    pub popped_on : (counts : Counts) → GoesOn u signatures signatures counts counts w (popped w)
+    popped_on counts = stays_on SearchInvariant-pop refl (omega (arith, rest-cut u.visited w.frames some read))
 
 -- A component is a strongly connected set of states on the stack. Each frame belongs to a state on the stack, and
 -- records which outgoing transitions of this state are still to be read. These lemmas make three assumptions. First,
@@ -288,13 +288,20 @@ module _ (laws : Laws) {u : Under} (lts : IsLts u.l) {before signatures : List (
   }
 
   -- A component is a strongly connected set of states on the stack. Suppose that the component at the top of the stack
-  -- is completed. Then the invariant of the search still holds (`GoesOn`). The number of visits (reads of transitions
-  -- that the meter counts) that are still to be made and the number of unvisited states do not change.
-  pub closed : GoesOn u before signatures w new × (ahead u new ≡ ahead u w) × (unseen new.stages ≡ unseen w.stages)
+  -- is completed. Then the invariant of the search still holds, and the number of visits (reads of transitions that the
+  -- meter counts) that are still to be made does not change (`GoesOn`). The number of unvisited states does not change
+  -- either.
+  pub closed : ((counts : Counts) → GoesOn u before signatures counts counts w new)
+      × (unseen new.stages ≡ unseen w.stages)
   closed =
       let cut = rest-cut u.visited w.frames some read in
       let frames = ap (rest u.visited) closes.frames in (
-        record { walks = SearchInvariant-closed; grow = closes.listed.grow; seen = closed_seen; signs = closed_signs },
-        omega (arith, unread-same w.stages new.stages same_unseen (remaining u), cut, frames),
+        λ counts. record {
+          walks = SearchInvariant-closed;
+          grow = closes.listed.grow;
+          seen = closed_seen;
+          signs = closed_signs;
+          spends = omega (arith, unread-same w.stages new.stages same_unseen (remaining u), cut, frames);
+        },
         unseen-same w.stages new.stages same_unseen closes.stages.size,
       )

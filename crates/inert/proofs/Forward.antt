@@ -9,7 +9,7 @@ use Rattle.std.proofs.lemmas.List.Elements.{All-push, All-take, All-set}
 use Rattle.std.proofs.lemmas.Grind.{elements, common_steps}
 use Rattle.std.proofs.lemmas.{Bool.cases_lt, Bool.cases_eq, List.Quantifiers.all_pairs_push, List.Sums.sum_by_push}
 use Rattle.theory.specs.{declared.relation.Relation.TheVariants.Branching, Blocks.Inert}
-use Rattle.lts.specs.{Lts.system_of, Lts.IsRow, Lts.place_at, Visited.price_between}
+use Rattle.lts.specs.{Lts.system_of, Lts.IsRow, Lts.place_at, Meter.Counts, Visited.price_between}
 use Rattle.lts.proofs.CallerLemmas.{row_left}
 use Rattle.signatures.specs.Lists.{Grow}
 use Rattle.signatures.proofs.CallerLemmas.{Grow-same}
@@ -17,7 +17,7 @@ use Rattle.inert.specs.Search.{Pair, HasVisitStates, Search, IsInternedItem, Bel
 use Rattle.inert.specs.Search.{SearchInvariant, Item, Laws, stage_at, IsNotBelow, IsRoot, IsInComponent, Root, OnStack}
 use Rattle.inert.specs.Search.{frame_at, IsFrame, IsBeingSearched, IsToBeRead, AreOpen, AreRoots, AreFrames, AreHandled}
 use Rattle.inert.specs.Search.{AreCacheable, Connects, Unvisited, Frame, IsFollowed, IsHandled}
-use Rattle.inert.specs.SearchMoves.{with_item, CutsRoots, with_pushed, GoesOn, ahead}
+use Rattle.inert.specs.SearchMoves.{with_item, CutsRoots, with_pushed, GoesOn, Spends}
 use Rattle.inert.specs.{Steps.Under, Steps.remaining, Signed.HasPair}
 use Rattle.inert.proofs.Invariant.{pushed, here, no_root, no_frame, IsBefore, AllPairs-take, All-from_take, unseen-set}
 use Rattle.inert.proofs.Invariant.{unread-set, kept_still, KeepsStack, roots_kept, accounted_still, sound_still}
@@ -228,12 +228,13 @@ module _ {u : Under} {signatures : List (List (ℕ × ℕ))} {w : Search} (walks
       -- Suppose that an inert step leads from the current state, if there is one, to the state t. If the search pushes
       -- t, the invariant of the search still holds (`GoesOn`). The number of visits (reads of transitions that the
       -- meter counts) that the search still has to make does not change.
-      pub entered_on : GoesOn u signatures signatures w Entered × (ahead u Entered ≡ ahead u w)
-      entered_on =
+      pub entered_on : (counts : Counts) → GoesOn u signatures signatures counts counts w Entered
+      entered_on counts =
           let read = unread-set w.stages t (OnStack n) refl within unseen (remaining u) in
           let row = row_left u.visited u.l.places t start end row in
           let push = sum_by_push (λ y. price_between u.visited y.next y.end) w.frames NewFrame in
-          (grind (arith, SearchInvariant-enter, grow, stage_of, unseen), omega (arith, read, row, push))
+          let spends : Spends u counts counts w Entered = omega (arith, read, row, push) in
+          grind (arith, SearchInvariant-enter, grow, stage_of, unseen, spends)
 
   -- Each frame belongs to a state on the stack, and records which outgoing transitions of this state are still to be
   -- read. These lemmas are about the step in which the search reads the next transition of the frame with the index i.

@@ -16,9 +16,10 @@ use Rattle.inert.specs.Search.{is_unvisited, unseen, unread, rest, Laws, LeadsIn
 use Rattle.inert.specs.Search.{Completed, AreOpen, item_at, GivesPair, IsNotBelow, BelongsTo, ComponentHasPair}
 use Rattle.inert.specs.Search.{IsToBeRead, IsBeingSearched, IsFollowed, IsHandled, IsSound, IsInternedItem, IsRoot}
 use Rattle.inert.specs.Search.{AreRoots, OnStack, Item, Pair, Interned, IsCacheable}
-use Rattle.inert.specs.{Steps.Under, SearchMoves.HasRead, SearchMoves.GoesOn, Signed.HasPair, Signed.pair_under}
+use Rattle.inert.specs.SearchMoves.{HasRead, GoesOn, Spends}
+use Rattle.inert.specs.{Steps.Under, Signed.HasPair, Signed.pair_under}
 use Rattle.lts.specs.Lts.{Triple, source_of, row_of, system_of, place_at}
-use Rattle.lts.specs.Visited.{price, price_between}
+use Rattle.lts.specs.{Visited.price, Visited.price_between, Meter.Counts}
 use Rattle.lts.proofs.CallerLemmas.{length-filter-sum, price_none, price_first}
 use Rattle.theory.specs.declared.relation.Relation.TheVariants.{Branching}
 use Rattle.signatures.specs.Lists.{Grow}
@@ -107,15 +108,6 @@ pub rest-next : (visited : List ℕ) (frames : List Frame) (i : ℕ) (x : Frame)
 rest-next visited frames i x below end next more =
     let one = price_first visited (frame_at frames i).next (frame_at frames i).end more in
     grind (arith, sum_by-set (λ y. price_between visited y.next y.end) frames i x no_frame below, end, next, one)
-
--- A visit is a read of a transition that the meter counts. Each frame belongs to a state on the stack, and records
--- which outgoing transitions of this state are still to be read. Reading the next transition of one frame takes 0 or 1
--- visits. This number of visits is at most the number of visits that are needed for the transitions of all frames.
-pub rest-most : (visited : List ℕ) (frames : List Frame) (i : ℕ) → i < length frames →
-    (frame_at frames i).next < (frame_at frames i).end → price visited (frame_at frames i).next ≤ rest visited frames
-rest-most visited frames i below more =
-    let x = frame_at frames i in
-    omega (arith, rest-next visited frames i (record x { next = x.next + 1 }) below refl refl more)
 
 -- A visit is a read of a transition that the meter counts. Each frame belongs to a state on the stack, and records
 -- which outgoing transitions of this state are still to be read. Suppose that no transition of the last frame is still
@@ -315,19 +307,23 @@ kept_still grow u old new still s k was =
     grind (arith, was, was.signature, still, grow.longer, grow.same k was.within)
 
 -- Let `old` and `new` be the data of the search at two points. Suppose that the invariant of the search holds for
--- `new`, and that no state has changed its status (unvisited, on the stack, or completed) since `old`. Then the search
--- has gone on from `old` to `new` (`GoesOn`).
-pub stays_on : {u : Under} {signatures : List (List (ℕ × ℕ))} {old new : Search} → SearchInvariant u signatures new →
-    new.stages ≡ old.stages → GoesOn u signatures signatures old new
-stays_on {signatures = signatures} walks same = grind (arith, walks, same, Grow-same signatures)
+-- `new`, and that no state has changed its status (unvisited, on the stack, or completed) since `old`. Suppose also
+-- that the meter has counted exactly the visits that the search no longer has to make (`Spends`). Then the search has
+-- gone on from `old` to `new` (`GoesOn`).
+pub stays_on : {u : Under} {signatures : List (List (ℕ × ℕ))} {first second : Counts} {old new : Search}
+    → SearchInvariant u signatures new → new.stages ≡ old.stages → Spends u first second old new
+    → GoesOn u signatures signatures first second old new
+stays_on {signatures = signatures} walks same spends = grind (arith, walks, same, Grow-same signatures, spends)
 
 -- `GoesOn` is transitive. If the search goes on from the point `old` to the point `mid`, and from `mid` to the point
 -- `new`, then it goes on from `old` to `new`.
-pub goes_on : {u : Under} {first before signatures : List (List (ℕ × ℕ))} {old mid new : Search} →
-    GoesOn u first before old mid → GoesOn u before signatures mid new → GoesOn u first signatures old new
+pub goes_on : {u : Under} {earliest before signatures : List (List (ℕ × ℕ))} {first second third : Counts}
+    {old mid new : Search} → GoesOn u earliest before first second old mid
+    → GoesOn u before signatures second third mid new → GoesOn u earliest signatures first third old new
 goes_on were are = record {
   walks = are.walks;
   grow = Grow-twice were.grow are.grow;
   seen = grind (arith, were.seen, are.seen);
   signs = λ s k is. grind (arith, are.signs s k is, were.signs s k, are.grow.longer, are.grow.same);
+  spends = omega (arith, were.spends, are.spends);
 }

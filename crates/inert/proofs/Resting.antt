@@ -5,6 +5,7 @@
 use Rattle.std.proofs.Common.{rules, ◌≡◌, ◌⊎◌, ◌∙◌, ℕ, ◌<◌, ◌≤◌, List, length, slice_index, refl, sym, ap, arith}
 use Rattle.std.proofs.lemmas.List.{get_or_past, get_or-map, length-map, nil_from_length, get_or_default}
 use Rattle.std.proofs.lemmas.{Bool.cases_lt, List.Sums.count_by-le-length, Grind.common_steps}
+use Rattle.lts.specs.Meter.{Counts}
 use Rattle.partition.specs.Blocks.{IsMember, InactiveHaveNone}
 use Rattle.inert.specs.Search.{Search, nothing, stage_at, id_of, cached, AreCacheable, IsFinished, HasEnded}
 use Rattle.inert.specs.Search.{AreMarkedUnvisited, HasVisitStates, is_unvisited, SearchInvariant, Unvisited, OnStack}
@@ -95,9 +96,10 @@ walk_rests {w = w} walks none =
 -- The active states are the states that the round processes. These lemmas assume that three events happened one after
 -- the other. First, all states were completed. Second, the active states were marked as unvisited. Third, the search
 -- has completed the active states again.
-module _ {u : Under} {before signatures : List (List (ℕ × ℕ))} {active : List ℕ} {first woken done : Search}
-    (had : CachesBeside u.l u.blocks active before (cached first.stages)) (over : HasEnded first)
-    (woke : AreMarkedUnvisited first.stages active woken) (back : ReturnsToRest u before signatures woken done)
+module _ {u : Under} {before signatures : List (List (ℕ × ℕ))} {active : List ℕ} {earlier later : Counts}
+    {first woken done : Search} (had : CachesBeside u.l u.blocks active before (cached first.stages))
+    (over : HasEnded first) (woke : AreMarkedUnvisited first.stages active woken)
+    (back : ReturnsToRest u before signatures earlier later woken done)
     (all : (i : ℕ) → i < length active → IsFinished done.stages (slice_index active i)) where
   abbrev now : List ℕ
   now = cached done.stages

@@ -7,7 +7,7 @@ use Rattle.std.specs.Prelude.{◌≡◌, ◌⊎◌, ◌↔◌, ℕ, ◌+◌, ◌
 use Rattle.std.specs.Prelude.{slice_index, slice_set, Bool, IsTrue}
 use Rattle.std.specs.List.{Contains}
 use Rattle.std.specs.List.Sorted.{IsStrictlySortedBy}
-use Rattle.lts.specs.Lts.{Triple, IsRow}
+use Rattle.lts.specs.{Lts.Triple, Lts.IsRow, Meter.Counts, Meter.Costs}
 use Rattle.signatures.specs.Lists.{list_at, pair_cmp, Grow}
 use Rattle.inert.specs.Search.{Search, nothing, stage_at, top, root_at, GivesPair, IsSigned}
 use Rattle.inert.specs.Search.{SearchInvariant, VisitState}
@@ -125,6 +125,15 @@ pub record Closes (root : Root) (before after : List (List (ℕ × ℕ))) (old n
 abbrev pub ahead : Under → Search → ℕ
 ahead u w = unread (remaining u) w.stages + rest u.visited w.frames
 
+-- A visit is a read of a transition that the meter counts. The search has the data `old` and the meter has the counts
+-- `first` at one point. At a later point, the search has the data `new` and the meter has the counts `second`. `Spends`
+-- holds if both of the following conditions hold. First, the meter has counted no round between the two points, and at
+-- most as many visits as the search still had to make at the first point (`ahead`). Second, the number of counted
+-- visits plus the number of visits that the search still has to make is the same at both points.
+pub record Spends (u : Under) (first second : Counts) (old new : Search) : Type 0 where
+  pub cost : Costs first second 0 0 (ahead u old)
+  pub visits : second.visits + ahead u new ≡ first.visits + ahead u old
+
 -- A frame records which outgoing transitions of a state are still to be read. The search pushes a frame together with
 -- each state, and pops the frame after all of these transitions were read. Returns an upper bound for the number of
 -- states that the search still pushes plus the number of frames that it still pops. The bound decreases whenever a
@@ -145,18 +154,22 @@ abbrev pub SignsMore : Under → List (List (ℕ × ℕ)) → List VisitState �
 SignsMore u signatures old new =
     (s k : ℕ) → stage_at new s ≡ Completed k → (stage_at old s ≡ Completed k) ⊎ IsSigned u s signatures k
 
--- The search has the data `old` at one point, and the data `new` at another point. The list of interned signatures is
--- `before` at the first point, and `signatures` at the second point. `GoesOn` holds if all four of the following
--- conditions hold. First, the invariant of the search holds at the second point (`SearchInvariant`). Second, each
--- signature of `before` has the same ID in `signatures`. Third, each state that is unvisited in `new` is also unvisited
--- in `old`, and each state that is completed in `old` has the same status in `new` (`KeepsVisited`). Fourth, each state
--- that is completed in `new` has the same status in `old`, or its status in `new` contains the ID of its branching
--- signature (`SignsMore`).
-pub record GoesOn (u : Under) (before signatures : List (List (ℕ × ℕ))) (old new : Search) : Type 0 where
+-- The search has the data `old` at one point, and the data `new` at another point. The meter has the counts `first` at
+-- the first point, and `second` at the second point. The list of interned signatures is `before` at the first point,
+-- and `signatures` at the second point. `GoesOn` holds if all five of the following conditions hold. First, the
+-- invariant of the search holds at the second point (`SearchInvariant`). Second, each signature of `before` has the
+-- same ID in `signatures`. Third, each state that is unvisited in `new` is also unvisited in `old`, and each state that
+-- is completed in `old` has the same status in `new` (`KeepsVisited`). Fourth, each state that is completed in `new`
+-- has the same status in `old`, or its status in `new` contains the ID of its branching signature (`SignsMore`). Fifth,
+-- between the two points the meter has counted exactly the visits (reads of transitions that the meter counts) that the
+-- search no longer has to make (`Spends`).
+pub record GoesOn (u : Under) (before signatures : List (List (ℕ × ℕ))) (first second : Counts) (old new : Search) :
+    Type 0 where
   pub walks : SearchInvariant u signatures new
   pub grow : Grow before signatures
   pub seen : KeepsVisited old.stages new.stages
   pub signs : SignsMore u signatures old.stages new.stages
+  pub spends : Spends u first second old new
 
 -- The search has the data `old` before a call of `read`, and the data `new` after the call. The call reads outgoing
 -- transitions of the current state of the search. Each frame belongs to a state on the stack, and records which
@@ -179,6 +192,7 @@ pub record IsAtRest (u : Under) (signatures : List (List (ℕ × ℕ))) (w : Sea
 -- The search has the data `old` at one point, and the data `new` at another point. `ReturnsToRest` holds if both of the
 -- following conditions hold. First, the search has gone on from `old` to `new` (`GoesOn`). Second, no search is in
 -- progress at `new`, which means that the stack and all other lists of `new` are empty.
-pub record ReturnsToRest (u : Under) (before signatures : List (List (ℕ × ℕ))) (old new : Search) : Type 0 where
+pub record ReturnsToRest (u : Under) (before signatures : List (List (ℕ × ℕ))) (first second : Counts)
+    (old new : Search) : Type 0 where
   pub empty : new ≡ nothing new.stages
-  pub on : GoesOn u before signatures old new
+  pub on : GoesOn u before signatures first second old new

@@ -1,7 +1,7 @@
 //! The moves of the depth-first search along inert transitions. The search reads the outgoing transitions of each
 //! active state (each state that the round processes) once.
 ghost use Rattle.std.specs.Prelude.{◌≡◌, ◌+◌, ◌-◌, ◌<◌, ◌≤◌, length, take, drop, IfOk, OnOk};
-ghost use Rattle.lts.specs.Meter.{HasRoomFor, Costs};
+ghost use Rattle.lts.specs.Meter.{Counts, HasRoomFor, Costs};
 ghost use Rattle.inert.specs.Search.{stage_at, IsFinished, AreOpen, AreInternedItems};
 ghost use Rattle.inert.specs.Search.{SearchInvariant, Unvisited};
 ghost use Rattle.inert.specs.SearchMoves.{Closes, ahead, steps, HasRead, GoesOn, MakesProgress, IsAtRest};
@@ -27,11 +27,9 @@ impl DepthFirstSearch {
         requires state { (s < lens.now.l.states) × (stage_at self.old.stages s ≡ Unvisited) }
         requires rests { IsAtRest lens.now signatures.old self.old }
         requires room { HasRoomFor (M.counted m.old) 0 (ahead lens.now self.old) }
-        ensures rests { OnOk result
-            (ReturnsToRest lens.now signatures.old signatures.new self.old self.new) }
+        ensures rests { OnOk result (ReturnsToRest lens.now signatures.old signatures.new
+            (M.counted m.old) (M.counted m.new) self.old self.new) }
         ensures finished { OnOk result (IsFinished self.new.stages s) }
-        ensures visits { OnOk result ((M.counted m.new).visits + ahead lens.now self.new
-            ≡ (M.counted m.old).visits + ahead lens.now self.old) }
         ensures cost { Costs (M.counted m.old) (M.counted m.new) 0 0 (ahead lens.now self.old) }
     {
         self.begin(lens, s, signatures, m)?;
@@ -59,11 +57,9 @@ impl DepthFirstSearch {
         requires state { (s < lens.now.l.states) × (stage_at self.old.stages s ≡ Unvisited) }
         requires rests { IsAtRest lens.now signatures.old self.old }
         requires room { HasRoomFor (M.counted m.old) 0 (ahead lens.now self.old) }
-        ensures on { OnOk result
-            (GoesOn lens.now signatures.old signatures.new self.old self.new) }
+        ensures on { OnOk result (GoesOn lens.now signatures.old signatures.new
+            (M.counted m.old) (M.counted m.new) self.old self.new) }
         ensures found { OnOk result (¬ (stage_at self.new.stages s ≡ Unvisited)) }
-        ensures visits { OnOk result ((M.counted m.new).visits + ahead lens.now self.new
-            ≡ (M.counted m.old).visits + ahead lens.now self.old) }
         ensures cost { Costs (M.counted m.old) (M.counted m.new) 0 0 (ahead lens.now self.old) }
     {
         lens.invariants();
@@ -96,10 +92,8 @@ impl DepthFirstSearch {
         requires walks { SearchInvariant lens.now signatures.now self.old }
         requires some { 0 < length self.old.frames }
         requires room { HasRoomFor (M.counted m.old) 0 (ahead lens.now self.old) }
-        ensures on { OnOk result
-            (GoesOn lens.now signatures.now signatures.now self.old self.new) }
-        ensures visits { OnOk result ((M.counted m.new).visits + ahead lens.now self.new
-            ≡ (M.counted m.old).visits + ahead lens.now self.old) }
+        ensures on { OnOk result (GoesOn lens.now signatures.now signatures.now
+            (M.counted m.old) (M.counted m.new) self.old self.new) }
         ensures steps { IfOk result (MakesProgress self.old self.new) }
         ensures cost { Costs (M.counted m.old) (M.counted m.new) 0 0 (ahead lens.now self.old) }
     {
@@ -126,9 +120,8 @@ impl DepthFirstSearch {
         requires walks { SearchInvariant lens.now signatures.old self.old }
         requires some { 0 < length self.old.frames }
         requires read { HasRead self.old }
-        ensures on { OnOk result
-            (GoesOn lens.now signatures.old signatures.new self.old self.new) }
-        ensures ahead { OnOk result (ahead lens.now self.new ≡ ahead lens.now self.old) }
+        ensures on { OnOk result ((counts : Counts) →
+            GoesOn lens.now signatures.old signatures.new counts counts self.old self.new) }
         ensures back { OnOk result (steps self.new < steps self.old) }
     {
         lens.invariants();

@@ -159,8 +159,8 @@ fn search_all<M: Meter>(
     requires active { AreActive lens.now.l.states active.now }
     requires rests { IsAtRest lens.now signatures.old search.old }
     requires room { HasRoomFor (M.counted m.old) 0 (length (remaining lens.now)) }
-    ensures rests { OnOk result
-        (ReturnsToRest lens.now signatures.old signatures.new search.old search.new) }
+    ensures rests { OnOk result (ReturnsToRest lens.now signatures.old signatures.new
+        (M.counted m.old) (M.counted m.new) search.old search.new) }
     ensures all { OnOk result ((i : ℕ) → i < length active.now →
         IsFinished search.new.stages (slice_index active.now i)) }
     ensures visits { Costs (M.counted m.old) (M.counted m.new) 0 0 (length (remaining lens.now)) }

@@ -20,7 +20,8 @@ all_on old new active i still here were j from h = elim (cases_lt j i) [
 ]
 
 pub loop-i-init : goal.loop-i-init
-loop-i-init g c = let on = stays_on {old = c.args.search.now} c.requires.rests.walks refl in
+loop-i-init g c = let at = g.M.Meter.counted c.args.m.now in
+    let on = stays_on {first = at} {second = at} {old = c.args.search.now} c.requires.rests.walks refl (omega arith) in
     let none = ap (λ w. rest c.args.lens.now.visited w.frames) c.requires.rests.empty in
     search (rules, length-filter, count_by-le-length, c.requires.rests, on, none)
 

@@ -1,5 +1,5 @@
 use Rattle.std.proofs.Common.{rules, ◌∙◌, sym, arith}
-use Rattle.std.proofs.lemmas.{Bool.false≢true, Grind.common_steps}
+use Rattle.std.proofs.lemmas.Bool.{false≢true}
 use Rattle.inert.proofs.{Invariant.goes_on, Resting.walk_rests, Resting.finished}
 use Rattle.inert.proofs.depth_first_search.DepthFirstSearch.finish.Goals as goal
 
@@ -17,7 +17,8 @@ pub loop-self-preserved : goal.loop-self-preserved
 loop-self-preserved g c = let inv = c.loop-self.invariant in
     let read = c.in_ok-read.ensures in
     let back = c.in_ok-go_back.ensures in
-    grind (arith, common_steps, goes_on (goes_on inv.on read.on) back.on, inv, read, back)
+    let later = goes_on read.on (back.on _) in
+    grind (arith, goes_on inv.on later, later.seen.unseen c.args.s, inv.found, read.steps, back.back)
 
 pub returns : goal.returns
 returns g c = let inv = c.loop-self.invariant in

@@ -30,9 +30,9 @@ close-requires-clause-there g c =
     subst (λ (w : Search). AreInternedItems c.args.signatures.now w.items) (sym c.self.view_is) c.requires.walks.there
 
 pub returns-else-root-frame-clause-on : goal.returns-else-root-frame-clause-on
-returns-else-root-frame-clause-on g c = let d = (goal.at.returns-else-root-frame-clause-on g c).After-pop in
+returns-else-root-frame-clause-on g c counts = let d = (goal.at.returns-else-root-frame-clause-on g c).After-pop in
     let apart : (last c.args.self.now.roots).height ≢ here c.args.self.now = search (rules, root g d) in
-    rw (remaining g d) (popped_on c.requires.walks c.requires.some c.requires.read apart)
+    rw (remaining g d) (popped_on c.requires.walks c.requires.some c.requires.read apart counts)
 
 pub returns-in_ok-close : goal.returns-in_ok-close
 returns-in_ok-close g c = let d = (goal.at.returns-in_ok-close g c).After-pop in
