@@ -62,20 +62,20 @@ pub only_line : (line : List ℕ) → IsOneLine line → 1 ≤ length line → l
 only_line [] one some = absurd (omega arith)
 only_line (b ∷ bs) one some = ap lines_of (sym (append-nil (b ∷ bs))) ∙ lines_of-onto (b ∷ bs) [] one
 
--- `HasFirst lines` holds if the list `lines` contains at least one line.
-abbrev HasFirst : List (List ℕ) → Type 0
-HasFirst lines = (line : List ℕ) × (others : List (List ℕ)) × (lines ≡ line ∷ others)
+-- `IsNotEmpty lines` holds if the list `lines` contains at least one line.
+abbrev IsNotEmpty : List (List ℕ) → Type 0
+IsNotEmpty lines = (line : List ℕ) × (others : List (List ℕ)) × (lines ≡ line ∷ others)
 
-onto_first-first : (b : ℕ) (lines : List (List ℕ)) → HasFirst (onto_first b lines)
-onto_first-first b [] = (b ∷ [], [], refl)
-onto_first-first b (line ∷ others) = (b ∷ line, others, refl)
+onto_first-not_empty : (b : ℕ) (lines : List (List ℕ)) → IsNotEmpty (onto_first b lines)
+onto_first-not_empty b [] = (b ∷ [], [], refl)
+onto_first-not_empty b (line ∷ others) = (b ∷ line, others, refl)
 
 -- A text that is not empty has at least one line.
-pub some_line : (text : List ℕ) → 1 ≤ length text → HasFirst (lines_of text)
+pub some_line : (text : List ℕ) → 1 ≤ length text → IsNotEmpty (lines_of text)
 some_line [] some = absurd (omega arith)
 some_line (b ∷ bs) some =
-    cond_both (b == 10) ([] ∷ lines_of bs) (onto_first b (lines_of bs)) HasFirst (λ _. ([], lines_of bs, refl))
-    (λ _. onto_first-first b (lines_of bs))
+    cond_both (b == 10) ([] ∷ lines_of bs) (onto_first b (lines_of bs)) IsNotEmpty (λ _. ([], lines_of bs, refl))
+    (λ _. onto_first-not_empty b (lines_of bs))
 
 -- If bytes are appended to a text that ends with a line feed, then the lines of these bytes are appended to the lines
 -- of the text.
