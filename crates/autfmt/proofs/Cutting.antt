@@ -96,12 +96,6 @@ ended_go_on (b ∷ front) more =
 abbrev pub Divides : List ℕ → List (List ℕ) → List ℕ → Type 0
 Divides given lines rest = (more : List ℕ) → lines_of (given ++ more) ≡ lines ++ lines_of (rest ++ more)
 
--- If no bytes follow the lines into which bytes are divided, these lines are all lines of the bytes.
-pub Divides-end : (given : List ℕ) (lines : List (List ℕ)) (rest : List ℕ) → Divides given lines rest →
-    length rest ≡ 0 → Lines (given ++ []) lines
-Divides-end given lines [] divides none = divides [] ∙ append-nil lines
-Divides-end given lines (b ∷ rest) divides none = absurd (omega arith)
-
 -- `Grows lines longer` holds if the list `longer` begins with the lines of the list `lines`, except that bytes may have
 -- been appended to the last of these lines.
 abbrev pub Grows : List (List ℕ) → List (List ℕ) → Type 0

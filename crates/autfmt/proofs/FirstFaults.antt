@@ -1,15 +1,18 @@
--- The lemmas in this file are about the first error of an input (`FaultFrom`), which is a system or a hide list (a file
--- with the labels to hide). In these lemmas, the relation `Good` relates a correct line to the transition or the label
--- on this line.
-use Rattle.std.proofs.Common.{◌≡◌, ◌≢◌, ◌⊎◌, ◌↔◌, ⊎_elim, ℕ, ◌+◌, ◌<◌, ◌≤◌, List, [], ◌∷◌, ◌++◌, length, replicate, All}
-use Rattle.std.proofs.Common.{refl, sym, ◌∙◌, ap, subst, inl, inr, arith}
+-- The lemmas in this file are about the errors of an input, which is a system or a hide list (a file with the labels to
+-- hide). If each line of an input is correct or has exactly one error, then the input has at most one first error
+-- (`FaultFrom`), and it has no first error if and only if it is correct as a whole. The bytes at the beginning of an
+-- input may already show which error is the first error, whatever bytes follow.
+use Rattle.std.proofs.Common.{◌≡◌, ◌≢◌, ◌⊎◌, ◌↔◌, ⊎_elim, ℕ, ◌+◌, ◌<◌, ◌≤◌, List, [], ◌∷◌, ◌++◌, length, replicate}
+use Rattle.std.proofs.Common.{Option, None, Some, refl, sym, ◌∙◌, ap, subst, inl, inr, arith}
 use Rattle.std.specs.List.{AllZip}
-use Rattle.std.proofs.lemmas.{Bool.cases_lt, List.append-nil, List.length-append, List.length-replicate}
-use Rattle.std.proofs.lemmas.List.Elements.{All-nil, All-cons, All-head, All-tail, All-append, All-replicate}
+use Rattle.std.proofs.lemmas.{Bool.cases_lt, Option.same_Some, Option.none-some, List.append-nil, List.append_assoc}
+use Rattle.std.proofs.lemmas.List.{length-append, length-replicate, Elements.All-append, Elements.All-replicate}
 use Rattle.autfmt.specs.{declared.fault.Fault.Fault, declared.line.TheConstants.LONGEST_LINE, Texts.lines_of}
-use Rattle.autfmt.specs.{Texts.IsOneLine, Texts.IsShort, Faults.NextFault, Faults.FaultFrom, Cutter.IsPart}
-use Rattle.autfmt.specs.declared.fault.Fault.TheVariants.{LineTooLong}
-use Rattle.autfmt.proofs.Cutting.{only_line, Divides, Divides-end, Grows}
+use Rattle.autfmt.specs.{Texts.IsOneLine, Texts.IsShort, Faults.LineFault, Faults.FaultFrom, Cutter.IsPart}
+use Rattle.autfmt.specs.Faults.LineFault.{too_long, unread, wrong}
+use Rattle.autfmt.specs.declared.fault.Fault.TheVariants.{LineTooLong, ExtraText, TooManyHidden}
+use Rattle.autfmt.proofs.Lines.{IsReader, one_reading, decided}
+use Rattle.autfmt.proofs.Cutting.{only_line, ended_go_on, Divides, Grows}
 
 -- Suppose that an input can be read or has an error, and that it has no error if it can be read. Then the input can be
 -- read if and only if it has no error.
@@ -17,156 +20,254 @@ pub without_fault : {X : Type 0} (P : Fault → Type 0) → X ⊎ ((f : Fault) �
     ((f : Fault) → ¬ P f) ↔ X
 without_fault P one not_both = (λ none. ⊎_elim (λ x. x) (λ bad. absurd (none bad.0 bad.1)) one, not_both)
 
--- `AreJudged Good Bad extra Lack` holds if each line is either correct (`Good`) or has exactly one error (`Bad`), and
--- if there is at most one error of an input that ends too early (`Lack`). The error `LineTooLong` must be the error of
--- a line only if the line is too long, and must remain its error if further bytes are appended to the line. The error
--- of a line that is not allowed (`extra`) and the error of an input that ends too early must not be `LineTooLong`.
-pub record AreJudged {X : Type 0} (Good : List ℕ → X → Type 0) (Bad : ℕ → List ℕ → Fault → Type 0)
-    (extra : ℕ → Fault) (Lack : ℕ → Fault → Type 0) : Type 0 where
-  pub one : (found : ℕ) (line : List ℕ) (f g : Fault) → Bad found line f → Bad found line g → f ≡ g
-  pub apart : (found : ℕ) (line : List ℕ) (x : X) (f : Fault) → Good line x → Bad found line f → ⊥
-  pub judged : (found : ℕ) (line : List ℕ) → ((x : X) × Good line x) ⊎ ((f : Fault) × Bad found line f)
-  pub long : (found : ℕ) (line : List ℕ) (k : ℕ) → Bad found line (LineTooLong k) →
-      (LONGEST_LINE < length line) × ((tail : List ℕ) → Bad found (line ++ tail) (LineTooLong k))
-  pub extra_long : (found k : ℕ) → extra found ≡ LineTooLong k → ⊥
-  pub one_lack : (found : ℕ) (f g : Fault) → Lack found f → Lack found g → f ≡ g
-  pub lacks : (found : ℕ) → ((f : Fault) × Lack found f) ⊎ ((f : Fault) → Lack found f → ⊥)
-  pub lack_long : (found k : ℕ) → Lack found (LineTooLong k) → ⊥
+none_or_some : {A : Type 0} (o : Option A) → (o ≡ None) ⊎ ((x : A) × (o ≡ Some x))
+none_or_some None = inl refl
+none_or_some (Some x) = inr (x, refl)
 
--- Assume that each line is either correct or has exactly one error, and that at most `most` lines are allowed.
-module _ {X : Type 0} {Good : List ℕ → X → Type 0} {Bad : ℕ → List ℕ → Fault → Type 0} {extra : ℕ → Fault}
-    {Lack : ℕ → Fault → Type 0} (law : AreJudged Good Bad extra Lack) (most : ℕ) where
-  abbrev pub Next : ℕ → List ℕ → Fault → Type 0
-  Next = NextFault most Bad extra
+-- ---- The error of a line
 
-  -- `First found lines f` holds if f is the first error in the lines `lines`, which follow `found` correct lines.
-  abbrev pub First : ℕ → List (List ℕ) → Fault → Type 0
-  First = FaultFrom Next Lack
+-- `IsJudged Good Bad` holds if a line either is correct or has exactly one error. `Good x` states that the line is
+-- correct and has the contents x, and `Bad f` states that f is the error of the line. A correct line has exactly one
+-- contents.
+pub record IsJudged {X : Type 0} (Good : X → Type 0) (Bad : Fault → Type 0) : Type 0 where
+  pub one : (x y : X) → Good x → Good y → x ≡ y
+  pub one_fault : (f g : Fault) → Bad f → Bad g → f ≡ g
+  pub apart : (x : X) (f : Fault) → Good x → Bad f → ⊥
+  pub judged : ((x : X) × Good x) ⊎ ((f : Fault) × Bad f)
+
+-- Suppose that the value x is the result of reading a line (`read`) if and only if x is the contents of the line
+-- (`IsRead x`). Then the line is not too long and has contents without an error, or it has exactly one error
+-- (`LineFault`).
+pub LineFault-judged : {X : Type 0} {read : Option X} {IsRead : X → Type 0} → IsReader read IsRead →
+    (fault_in : X → Option Fault) (k : ℕ) (bad : Fault) (line : List ℕ) →
+    IsJudged (λ x. IsShort line × IsRead x × (fault_in x ≡ None)) (LineFault IsRead fault_in k bad line)
+LineFault-judged reader fault_in k bad line = record {
+  one = λ x y g h. one_reading reader x y g.1 h.1;
+  one_fault = λ f g a b. let one = one_reading reader in grind (arith, one);
+  apart = λ x f good a. let one = one_reading reader in grind (arith, one);
+  judged = elim (cases_lt LONGEST_LINE (length line)) [
+    | inl long ↦ inr (LineTooLong k, too_long refl long)
+    | inr short ↦ elim (decided reader) [
+      | inr none ↦ inr (bad, unread refl short none)
+      | inl (x, is) ↦ ⊎_elim (λ none. inl (x, (short, is, none))) (λ found. inr (found.0, wrong x short is found.1))
+          (none_or_some (fault_in x))
+    ]
+  ];
+}
+
+-- `Lasts f` holds if f is one of the errors that remain the error of a line if further bytes are appended to the line.
+abbrev pub Lasts : Fault → Type 0
+Lasts (LineTooLong k) = Unit
+Lasts (ExtraText k) = Unit
+Lasts TooManyHidden = Unit
+Lasts f = ⊥
+
+-- Suppose that the error f of a line lasts (`Lasts`), and that neither the error of a line without contents nor an
+-- error in the contents lasts. Then f remains the error of the line if further bytes are appended to the line.
+pub LineFault-lasts : {X : Type 0} {IsRead IsRead' : X → Type 0} {fault_in : X → Option Fault} {k : ℕ} {bad : Fault}
+    {line : List ℕ} (tail : List ℕ) (f : Fault) → Lasts f → (Lasts bad → ⊥) →
+    ((x : X) → fault_in x ≡ Some f → Lasts f → ⊥) → LineFault IsRead fault_in k bad line f →
+    LineFault IsRead' fault_in k bad (line ++ tail) f
+LineFault-lasts {line = line} tail f lasts not_bad not_in (too_long e long) =
+    too_long e (omega (arith, length-append line tail))
+LineFault-lasts tail f lasts not_bad not_in (unread e short none) = absurd (not_bad (subst Lasts e lasts))
+LineFault-lasts tail f lasts not_bad not_in (wrong x short is e) = absurd (not_in x e lasts)
+
+-- Suppose that a line either is correct or has exactly one error, and that each contents x of a correct line determines
+-- the value `value x`. Then this still holds if the values take the place of the contents.
+pub IsJudged-map : {X Y : Type 0} {Good : X → Type 0} {Bad : Fault → Type 0} {Valued : Y → Type 0} (value : X → Y) →
+    IsJudged Good Bad → ((x : X) → Good x → Valued (value x)) →
+    ((y : Y) → Valued y → (x : X) × Good x × (y ≡ value x)) → IsJudged Valued Bad
+IsJudged-map value law to from = record {
+  one = λ y z a b.
+      let (x, good, e) = from y a in let (x', good', e') = from z b in
+      e ∙ ap value (law.one x x' good good') ∙ sym e';
+  one_fault = law.one_fault;
+  apart = λ y f a bad. let (x, good, e) = from y a in law.apart x f good bad;
+  judged = ⊎_elim (λ good. inl (value good.0, to good.0 good.1)) (λ bad. inr bad) law.judged;
+}
+
+-- Suppose that a line either is correct or has exactly one error. Then this still holds if at most `most` lines are
+-- allowed, the line follows `found` lines, and a line that is not allowed has the error `extra`.
+pub IsJudged-limit : {X : Type 0} {Good : X → Type 0} {Bad : Fault → Type 0} (found most : ℕ) (extra : Fault) →
+    IsJudged Good Bad →
+    IsJudged (λ x. (found < most) × Good x) (λ f. ((found < most) × Bad f) ⊎ ((most ≤ found) × (f ≡ extra)))
+IsJudged-limit found most extra law = record {
+  one = λ x y a b. law.one x y a.1 b.1;
+  one_fault = λ f g a b. let one = law.one_fault f g in grind (arith, one);
+  apart = λ x f a b. let apart = law.apart x f in grind (arith, apart);
+  judged = elim (cases_lt found most) [
+    | inr full ↦ inr (extra, inr (full, refl))
+    | inl less ↦ ⊎_elim (λ a. inl (a.0, (less, a.1))) (λ b. inr (b.0, inl (less, b.1))) law.judged
+  ];
+}
+
+-- ---- The first error of lines
+
+-- `Steps Good before lines after` holds if all lines of the list `lines` are correct after the lines that `before`
+-- describes, and if `after` describes all these lines (`FaultFrom` explains `Good`).
+abbrev pub Steps : {S : Type 0} → (S → List ℕ → S → Type 0) → S → List (List ℕ) → S → Type 0
+Steps Good before [] after = before ≡ after
+Steps {S = S} Good before (line ∷ others) after = (next : S) × Good before line next × Steps Good next others after
+
+-- Assume that at most `most` lines of a certain kind are allowed, and that `state i` describes the lines of an input up
+-- to i such lines. Assume also that `IsLine line x` states that such a line is correct and has the contents x.
+module _ {S X : Type 0} (Good : S → List ℕ → S → Type 0) (IsLine : List ℕ → X → Type 0) (most : ℕ) (state : ℕ → S)
+    (is : (i : ℕ) (line : List ℕ) (next : S) →
+    Good (state i) line next ↔ ((i < most) × ((x : X) × IsLine line x × (next ≡ state (i + 1))))) where
+  -- If all lines are correct, and there are not too many of them, then `Steps` holds for them.
+  pub Steps-from : (lines : List (List ℕ)) (xs : List X) (i j : ℕ) → AllZip IsLine lines xs → j ≡ i + length xs →
+      j ≤ most → Steps Good (state i) lines (state j)
+  Steps-from [] [] i j good e few = let same : i ≡ j = omega arith in ap state same
+  Steps-from (line ∷ lines) (x ∷ xs) i j good e few = (
+    state (i + 1),
+    (is i line (state (i + 1))).1 (omega arith, (x, good.0, refl)),
+    Steps-from lines xs (i + 1) j good.1 (omega arith) few,
+  )
+  Steps-from lines xs i j good e few = absurd good
+
+  -- If `Steps` holds for lines, then all these lines are correct, and there are not too many of them.
+  pub Steps-lines : (lines : List (List ℕ)) (i : ℕ) (after : S) → i ≤ most → Steps Good (state i) lines after →
+      (xs : List X) × (j : ℕ) × AllZip IsLine lines xs × (j ≡ i + length xs) × (j ≤ most) × (after ≡ state j)
+  Steps-lines [] i after few e = ([], i, tt, omega arith, few, sym e)
+  Steps-lines (line ∷ lines) i after few (next, good, steps) =
+      let (less, (x, one, e)) = (is i line next).0 good in
+      let (xs, j, each, size, within, end) =
+      Steps-lines lines (i + 1) after (omega arith) (subst (λ (s : S). Steps Good s lines after) e steps) in
+      (x ∷ xs, j, (one, each), omega arith, within, end)
+
+-- `AreJudged Good Bad end_fault` holds if each line is either correct (`Good`) or has exactly one error (`Bad`). The
+-- error `LineTooLong` must be the error of a line only if the line is too long. An error that lasts (`Lasts`) must
+-- remain the error of a line if bytes are appended to the line, and must not be the error of an input that ends too
+-- early (`end_fault`).
+pub record AreJudged {S : Type 0} (Good : S → List ℕ → S → Type 0) (Bad : S → List ℕ → Fault → Type 0)
+    (end_fault : S → Option Fault) : Type 0 where
+  pub line : (s : S) (line : List ℕ) → IsJudged (Good s line) (Bad s line)
+  pub long : (s : S) (line : List ℕ) (k : ℕ) → Bad s line (LineTooLong k) → LONGEST_LINE < length line
+  pub lasts : (s : S) (line tail : List ℕ) (f : Fault) → Lasts f → Bad s line f → Bad s (line ++ tail) f
+  pub end : (s : S) (f : Fault) → Lasts f → end_fault s ≡ Some f → ⊥
+
+-- For each number, there is a line with this number of bytes.
+long_line : (n : ℕ) → (line : List ℕ) × IsOneLine line × (length line ≡ n)
+long_line n = (
+  replicate n 0,
+  All-replicate (λ b. b ≢ 10) n 0 (λ e. absurd (omega arith)),
+  let zero : ℕ = 0 in length-replicate n zero,
+)
+
+-- Assume that each line is either correct or has exactly one error.
+module _ {S : Type 0} {Good : S → List ℕ → S → Type 0} {Bad : S → List ℕ → Fault → Type 0}
+    {end_fault : S → Option Fault} (law : AreJudged Good Bad end_fault) where
+  -- `First s lines f` holds if f is the first error in the lines `lines`, which follow the lines that s describes.
+  abbrev pub First : S → List (List ℕ) → Fault → Type 0
+  First = FaultFrom Good Bad end_fault
 
   -- Lines have at most one first error.
-  pub unique : (found : ℕ) (lines : List (List ℕ)) (f g : Fault) → First found lines f → First found lines g → f ≡ g
-  unique found [] f g a b = law.one_lack found f g a b
-  unique found (line ∷ others) f g a b =
-      let one = law.one found line f g in
-      let behind = unique (found + 1) others f g in
-      grind (arith, one, behind)
+  pub FaultFrom-unique : (s : S) (lines : List (List ℕ)) (f g : Fault) → First s lines f → First s lines g → f ≡ g
+  FaultFrom-unique s [] f g a b = same_Some f g (sym a ∙ b)
+  FaultFrom-unique s (line ∷ others) f g (inl a) (inl b) = (law.line s line).one_fault f g a b
+  FaultFrom-unique s (line ∷ others) f g (inl a) (inr (t, good, b)) = absurd ((law.line s line).apart t f good a)
+  FaultFrom-unique s (line ∷ others) f g (inr (t, good, a)) (inl b) = absurd ((law.line s line).apart t g good b)
+  FaultFrom-unique s (line ∷ others) f g (inr (t, good, a)) (inr (u, good', b)) =
+      let same = (law.line s line).one u t good' good in
+      FaultFrom-unique t others f g a (subst (λ (v : S). First v others g) same b)
 
-  next_good : (found : ℕ) (line : List ℕ) (x : X) → found < most → Good line x → (f : Fault) → Next found line f → ⊥
-  next_good found line x less good f (inl bad) = law.apart found line x f good bad.1
-  next_good found line x less good f (inr (full, e)) = omega arith
+  -- If correct lines are put in front of lines, the first error remains the same.
+  pub FaultFrom-behind : (s t : S) (front others : List (List ℕ)) (f : Fault) → Steps Good s front t →
+      First s (front ++ others) f ↔ First t others f
+  FaultFrom-behind s t [] others f e =
+      subst (λ (u : S). First s others f ↔ First u others f) e (λ h. h, λ h. h)
+  FaultFrom-behind s t (line ∷ front) others f (u, good, steps) =
+      let (there, back) = FaultFrom-behind u t front others f steps in
+      let judged = law.line s line in (
+        ⊎_elim (λ bad. absurd (judged.apart u f good bad)) (λ h. there (subst (λ (v : S). First v (front ++ others) f)
+            (judged.one h.0 u h.1 good) h.2)),
+        λ h. inr (u, good, back h),
+      )
 
-  -- If correct lines that are allowed are put in front of lines, the first error remains the same.
-  pub behind : (found i : ℕ) (front others : List (List ℕ)) (xs : List X) (f : Fault) → AllZip Good front xs →
-      i ≡ found + length xs → i ≤ most → First found (front ++ others) f ↔ First i others f
-  behind found i [] others [] f good e few =
-      let same : found ≡ i = omega arith in
-      subst (λ (k : ℕ). First found others f ↔ First k others f) same (λ h. h, λ h. h)
-  behind found i (line ∷ front) others (x ∷ xs) f good e few =
-      let none = next_good found line x (omega arith) good.0 in
-      let next = behind (found + 1) i front others xs f good.1 (omega arith) few in
-      (⊎_elim (λ bad. absurd (none f bad)) (λ h. next.0 h.1), λ h. inr (none, next.1 h))
-  behind found i front others xs f good e few = absurd good
+  -- If all lines are correct, and an input may end after them, then these lines have no first error.
+  pub FaultFrom-none : (s t : S) (lines : List (List ℕ)) (f : Fault) → Steps Good s lines t → end_fault t ≡ None →
+      First s lines f → ⊥
+  FaultFrom-none s t lines f steps none bad =
+      let e = (FaultFrom-behind s t lines [] f steps).0 (rw append-nil bad) in cc
 
-  -- `AreAllGood found lines xs` holds if all lines are correct and allowed, and if an input may end after them. The
-  -- list xs contains the transitions or labels on these lines, which follow `found` correct lines.
-  abbrev pub AreAllGood : ℕ → List (List ℕ) → List X → Type 0
-  AreAllGood found lines xs =
-      AllZip Good lines xs × (i : ℕ) × (i ≡ found + length xs) × (i ≤ most) × ((f : Fault) → Lack i f → ⊥)
-
-  -- If all lines are correct and allowed, and an input may end after them, then these lines have no first error.
-  pub no_fault : (lines : List (List ℕ)) (xs : List X) (f : Fault) → AreAllGood 0 lines xs → First 0 lines f → ⊥
-  no_fault lines xs f (good, i, e, few, none) bad =
-      none f ((behind 0 i lines [] xs f good e few).0 (rw append-nil bad))
-
-  -- Either all lines are correct and allowed, and an input may end after them, or the lines have a first error.
-  pub lines_judged : (found : ℕ) (lines : List (List ℕ)) → found ≤ most →
-      ((xs : List X) × AreAllGood found lines xs) ⊎ ((f : Fault) × First found lines f)
-  lines_judged found [] few = elim (law.lacks found) [
-    | inl lack ↦ inr lack
-    | inr none ↦ inl ([], (tt, found, omega arith, few, none))
-  ]
-  lines_judged found (line ∷ others) few = elim (cases_lt found most) [
-    | inr full ↦ inr (extra found, inl (inr (full, refl)))
-    | inl less ↦ elim (law.judged found line) [
-      | inr (f, bad) ↦ inr (f, inl (inl (less, bad)))
-      | inl (x, good) ↦ elim (lines_judged (found + 1) others (omega arith)) [
-        | inr (f, bad) ↦ inr (f, inr (next_good found line x less good, bad))
-        | inl (xs, (each, i, e, within, none)) ↦ inl (x ∷ xs, ((good, each), i, omega arith, within, none))
-      ]
+  -- Either all lines are correct, and an input may end after them, or the lines have a first error.
+  pub FaultFrom-judged : (s : S) (lines : List (List ℕ)) →
+      ((t : S) × Steps Good s lines t × (end_fault t ≡ None)) ⊎ ((f : Fault) × First s lines f)
+  FaultFrom-judged s [] = ⊎_elim (λ none. inl (s, refl, none)) (λ found. inr found) (none_or_some (end_fault s))
+  FaultFrom-judged s (line ∷ others) = elim (law.line s line).judged [
+    | inr (f, bad) ↦ inr (f, inl bad)
+    | inl (t, good) ↦ elim (FaultFrom-judged t others) [
+      | inr (f, bad) ↦ inr (f, inr (t, good, bad))
+      | inl (u, steps, none) ↦ inl (u, (t, good, steps), none)
     ]
   ]
 
-  -- If no line is too long, then the first error is not `LineTooLong`.
-  pub no_long : (found : ℕ) (lines : List (List ℕ)) (k : ℕ) → All IsShort lines → First found lines (LineTooLong k) → ⊥
-  no_long found [] k short bad = law.lack_long found k bad
-  no_long found (line ∷ others) k short (inl (inl (less, bad))) =
-      omega (arith, (law.long found line k bad).0, All-head IsShort line others short)
-  no_long found (line ∷ others) k short (inl (inr (full, e))) = law.extra_long found k (sym e)
-  no_long found (line ∷ others) k short (inr (none, bad)) =
-      no_long (found + 1) others k (All-tail IsShort line others short) bad
-
   -- Suppose that lines have a first error, and that it is not the error of an input that ends too early. Then this
   -- error remains the first error if further lines follow.
-  pub stays_before : (found : ℕ) (lines more : List (List ℕ)) (f : Fault) → ((i : ℕ) → Lack i f → ⊥) →
-      First found lines f → First found (lines ++ more) f
-  stays_before found [] more f some bad = absurd (some found bad)
-  stays_before found (line ∷ others) more f some (inl bad) = inl bad
-  stays_before found (line ∷ others) more f some (inr (none, bad)) =
-      inr (none, stays_before (found + 1) others more f some bad)
+  go_on : (s : S) (lines more : List (List ℕ)) (f : Fault) →
+      ((t : S) → Steps Good s lines t → end_fault t ≡ Some f → ⊥) → First s lines f → First s (lines ++ more) f
+  go_on s [] more f some bad = absurd (some s refl bad)
+  go_on s (line ∷ others) more f some (inl bad) = inl bad
+  go_on s (line ∷ others) more f some (inr (t, good, bad)) =
+      inr (t, good, go_on t others more f (λ u steps. some u (t, good, steps)) bad)
 
-  -- Suppose that f is the first error of lines, and that f is not the error that the input ends too early. Suppose also
-  -- that f remains the error of a line if bytes are appended to the line. Then f remains the first error if bytes are
-  -- appended to the last line, or if further lines follow.
-  pub stays : (f : Fault) → ((i : ℕ) → Lack i f → ⊥) →
-      ((i : ℕ) (line tail : List ℕ) → Bad i line f → Bad i (line ++ tail) f) →
-      (found : ℕ) (lines longer : List (List ℕ)) → Grows lines longer → First found lines f → First found longer f
-  stays f some wider found [] longer grows bad = absurd (some found bad)
-  stays f some wider found (line ∷ []) longer (tail, others, e) (inl bad) =
-      rw e (inl (⊎_elim (λ b. inl (b.0, wider found line tail b.1)) (λ b. inr b) bad))
-  stays f some wider found (line ∷ []) longer grows (inr (none, bad)) = absurd (some (found + 1) bad)
-  stays f some wider found (line ∷ next ∷ lines) longer (others, e, grows) (inl bad) = rw e (inl bad)
-  stays f some wider found (line ∷ next ∷ lines) longer (others, e, grows) (inr (none, bad)) =
-      rw e (inr (none, stays f some wider (found + 1) (next ∷ lines) others grows bad))
+  -- Suppose that a text ends with a line feed, and that its lines have a first error, which is not the error of an
+  -- input that ends too early. Then this error remains the first error if further bytes are appended to the text.
+  pub FaultFrom-ended : (s : S) (front more : List ℕ) (f : Fault) →
+      ((t : S) → Steps Good s (lines_of (front ++ 10 ∷ [])) t → end_fault t ≡ Some f → ⊥) →
+      First s (lines_of (front ++ 10 ∷ [])) f → First s (lines_of ((front ++ 10 ∷ []) ++ more)) f
+  FaultFrom-ended s front more f some bad =
+      rw (append_assoc, ended_go_on front more) (go_on s (lines_of (front ++ 10 ∷ [])) (lines_of more) f some bad)
 
--- Let `HasFirst lines f` state that f is the first error of the lines. Suppose that lines have at most one first error,
--- and that this error is `LineTooLong` only if some line is too long. Let `given` be the bytes that have been read so
--- far. Suppose that these bytes consist of the lines `ended`, none of which is too long, and of the bytes `rest`, which
--- can be a part of the next line (`IsPart`). Suppose also that one of two conditions holds. Either `LineTooLong` is the
--- first error of the lines `ended` and one further line that is too long, or there are no bytes of the next line and
--- the lines `ended` have no error. Then the bytes `given` do not determine the first error of the whole input. If the
--- first condition holds and further bytes make the last line too long, the first error is `LineTooLong`. If no bytes
--- follow, there is no error or another first error.
-pub not_known :
-    (HasFirst : List (List ℕ) → Fault → Type 0) →
-    ((lines : List (List ℕ)) (f g : Fault) → HasFirst lines f → HasFirst lines g → f ≡ g) →
-    ((lines : List (List ℕ)) (k : ℕ) → All IsShort lines → HasFirst lines (LineTooLong k) → ⊥) →
-    (given : List ℕ) (ended : List (List ℕ)) (rest : List ℕ) → Divides given ended rest → All IsShort ended →
-    IsPart rest →
-    ((k : ℕ) × ((line : List ℕ) → LONGEST_LINE < length line → HasFirst (ended ++ line ∷ []) (LineTooLong k)))
-    ⊎ ((length rest ≡ 0) × ((f : Fault) → HasFirst ended f → ⊥)) →
-    (fault : Fault) → ((more : List ℕ) → HasFirst (lines_of (given ++ more)) fault) → ⊥
-not_known HasFirst unique no_long given ended rest divides shorts part (inr (none, whole)) fault known =
-    whole fault (subst (λ (ls : List (List ℕ)). HasFirst ls fault) (Divides-end given ended rest divides none)
-    (known []))
-not_known HasFirst unique no_long given ended rest divides shorts part (inl (k, too_long)) fault known =
-    against (replicate (LONGEST_LINE + 1) 0) refl
-  where
-    last : (bytes : List ℕ) → IsPart bytes → All IsShort (lines_of bytes)
-    last [] p = All-nil IsShort
-    last (b ∷ bs) p = rw (only_line (b ∷ bs) p.0 (omega arith)) (All-cons IsShort (b ∷ bs) [] p.1 (All-nil IsShort))
+  -- If the first error of lines lasts (`Lasts`), then it remains the first error if bytes are appended to the last
+  -- line, or if further lines follow.
+  pub FaultFrom-lasts : (f : Fault) → Lasts f → (s : S) (lines longer : List (List ℕ)) → Grows lines longer →
+      First s lines f → First s longer f
+  FaultFrom-lasts f lasts s [] longer grows bad = absurd (law.end s f lasts bad)
+  FaultFrom-lasts f lasts s (line ∷ []) longer (tail, others, e) (inl bad) =
+      rw e (inl (law.lasts s line tail f lasts bad))
+  FaultFrom-lasts f lasts s (line ∷ []) longer grows (inr (t, good, bad)) = absurd (law.end t f lasts bad)
+  FaultFrom-lasts f lasts s (line ∷ next ∷ lines) longer (others, e, grows) (inl bad) = rw e (inl bad)
+  FaultFrom-lasts f lasts s (line ∷ next ∷ lines) longer (others, e, grows) (inr (t, good, bad)) =
+      rw e (inr (t, good, FaultFrom-lasts f lasts t (next ∷ lines) others grows bad))
 
-    against : (more : List ℕ) → more ≡ replicate (LONGEST_LINE + 1) 0 → ⊥
-    against more is =
-        let zero : ℕ = 0 in
-        let size : length more ≡ LONGEST_LINE + 1 = ap length is ∙ length-replicate (LONGEST_LINE + 1) zero in
-        let one : IsOneLine more =
-        subst IsOneLine (sym is) (All-replicate (λ b. b ≢ 10) (LONGEST_LINE + 1) 0 (λ e. absurd (omega arith))) in
-        let longer = length-append rest more in
-        let l = divides more ∙ ap (λ (ls : List (List ℕ)). ended ++ ls)
-        (only_line (rest ++ more) (All-append (λ b. b ≢ 10) rest more part.0 one) (omega arith)) in
-        let bad = subst (λ (ls : List (List ℕ)). HasFirst ls (LineTooLong k)) (sym l)
-        (too_long (rest ++ more) (omega arith)) in
-        let e : fault ≡ LineTooLong k = unique (lines_of (given ++ more)) fault (LineTooLong k) (known more) bad in
-        let all = All-append IsShort ended (lines_of rest) shorts (last rest part) in
-        no_long (lines_of (given ++ [])) k (rw (divides [], append-nil) all)
-        (subst (HasFirst (lines_of (given ++ []))) e (known []))
+  -- If bytes can be a part of one line, the first error of these bytes is not `LineTooLong`.
+  not_long : (s : S) (bytes : List ℕ) (k : ℕ) → IsPart bytes → First s (lines_of bytes) (LineTooLong k) → ⊥
+  not_long s [] k part bad = law.end s (LineTooLong k) tt bad
+  not_long s (b ∷ bs) k part bad =
+      let one = only_line (b ∷ bs) part.0 (omega arith) in
+      elim (subst (λ (ls : List (List ℕ)). First s ls (LineTooLong k)) one bad) [
+        | inl h ↦ omega (arith, law.long s (b ∷ bs) k h, part.1)
+        | inr (t, good, h) ↦ law.end t (LineTooLong k) tt h
+      ]
+
+  -- Let `given` be the bytes that have been read so far. Suppose that these bytes consist of correct lines, which t
+  -- describes, and of the bytes `rest`, which can be a part of the next line (`IsPart`). Suppose also that one of two
+  -- conditions holds. Either `LineTooLong` is the error of each further line that is too long, or there are no bytes of
+  -- the next line and an input may end after the lines. Then the bytes `given` do not determine the first error of the
+  -- whole input. If the first condition holds and further bytes make the last line too long, the first error is
+  -- `LineTooLong`. If no bytes follow, there is no error or another first error.
+  pub FaultFrom-not_known : (s t : S) (given : List ℕ) (ended : List (List ℕ)) (rest : List ℕ) →
+      Divides given ended rest → Steps Good s ended t → IsPart rest →
+      ((k : ℕ) × ((line : List ℕ) → LONGEST_LINE < length line → Bad t line (LineTooLong k)))
+      ⊎ ((rest ≡ []) × (end_fault t ≡ None)) →
+      (fault : Fault) → ((more : List ℕ) → First s (lines_of (given ++ more)) fault) → ⊥
+  FaultFrom-not_known s t given ended rest divides steps part open_at fault known =
+      ⊎_elim (λ long. against long.0 long.1 (long_line (LONGEST_LINE + 1)))
+      (λ end. let bad = rw end.0 at after [] in absurd (none-some fault (sym end.1 ∙ bad))) open_at
+    where
+      after : (more : List ℕ) → First t (lines_of (rest ++ more)) fault
+      after more =
+          (FaultFrom-behind s t ended (lines_of (rest ++ more)) fault steps).0
+          (subst (λ (ls : List (List ℕ)). First s ls fault) (divides more) (known more))
+
+      against : (k : ℕ) → ((line : List ℕ) → LONGEST_LINE < length line → Bad t line (LineTooLong k)) →
+          (more : List ℕ) × IsOneLine more × (length more ≡ LONGEST_LINE + 1) → ⊥
+      against k long (more, one, size) =
+          let longer = length-append rest more in
+          let line = only_line (rest ++ more) (All-append (λ b. b ≢ 10) rest more part.0 one) (omega arith) in
+          let bad : First t (lines_of (rest ++ more)) (LineTooLong k) =
+          rw line (inl (long (rest ++ more) (omega arith))) in
+          let e = FaultFrom-unique t (lines_of (rest ++ more)) fault (LineTooLong k) (after more) bad in
+          let none = after [] in not_long t rest k part (rw (append-nil, e) at none)

@@ -13,7 +13,8 @@ use Rattle.autfmt.specs.declared.fault.Fault.TheVariants.{LineTooLong, TooManyHi
 use Rattle.autfmt.specs.HideReaders.{IsHideFault, SameLabels, HidesAs}
 use Rattle.autfmt.specs.HideOutcomes.HideRefuses.{failed_source, faulty_text}
 use Rattle.autfmt.specs.declared.limits.TheConstants.{MOST_LINES}
-use Rattle.autfmt.proofs.{FirstFaults.Next, FirstFaults.behind, HideLaws.hides, HideLaws.no_judged_hide_fault}
+use Rattle.autfmt.proofs.{FirstFaults.First, FirstFaults.FaultFrom-behind, FirstFaults.FaultFrom-not_known}
+use Rattle.autfmt.proofs.{FaultLaws.hides_are_judged, FaultLaws.Steps-hides}
 use Rattle.autfmt.proofs.Cutting.{HasCut-line, HasCut-too_long, HasCut-end, HasCut-more, HasCut-part}
 use Rattle.autfmt.proofs.ReaderSteps.{if_told, none_to_come, fresh}
 
@@ -63,12 +64,16 @@ module _ {given : List ℕ} {old : Cutting} {H hidden : List (List ℕ)} (got : 
   -- the next line may still become too long, or that no further line is allowed and the hide list has no error if it
   -- ends here.
   pub hide_failed : (rest : Option (List ℕ)) (failures : ℕ) → length H ≤ MOST_LINES →
-      (length H < MOST_LINES) ⊎ (length (old.ahead ++ got) ≡ 0) → failures ≡ 1 →
+      (length H < MOST_LINES) ⊎ (old.ahead ++ got ≡ []) → failures ≡ 1 →
       (old.over ≡ false) × IsPart (old.ahead ++ got) → HideRefuses (given ++ got) rest failures Device
   hide_failed rest failures few unjudged failed (open_at, part) =
       let c = HasCut-part given got so_far.lines old so_far.cut open_at in
-      failed_source failed refl (λ f. no_judged_hide_fault (given ++ got) so_far.lines (old.ahead ++ got) H f c
-      so_far.named few part unjudged)
+      failed_source failed refl
+      (λ f known. FaultFrom-not_known hides_are_judged 0 (length H) (given ++ got) so_far.lines (old.ahead ++ got) c
+      (Steps-hides so_far.lines H (length H) so_far.named refl few) part
+      (⊎_elim (λ less. inl (length H + 1, λ line long. inl (less, LineFault.too_long refl long)))
+      (λ none. inr (none, refl)) unjudged)
+      f (λ more. (known more).first))
 
   -- Suppose that the source (the object from which the hide list is read) fails after the last line that is allowed.
   -- Then the reader may return `Device`, which is the error of a failed source. The contract allows this error only if
@@ -97,16 +102,18 @@ module _ {given : List ℕ} {old : Cutting} {H hidden : List (List ℕ)} (got : 
   module _ (found : ℕ) (rest : Option (List ℕ)) (failures : ℕ) (count : length H ≡ found) (sound : failures ≡ 0) where
     refused_behind : (fault : Fault) → IsHideFault fault → found ≤ MOST_LINES →
         ((more : List ℕ) → rest ≡ Some more → (line : List ℕ) × (others : List (List ℕ))
-        × Lines (given ++ got ++ more) (so_far.lines ++ line ∷ others) × Next hides MOST_LINES found line fault) →
+        × Lines (given ++ got ++ more) (so_far.lines ++ line ∷ others)
+        × First hides_are_judged found (line ∷ others) fault) →
         HideRefuses (given ++ got) rest failures fault
     refused_behind fault kind few next =
         faulty_text sound kind
         (if_told rest (λ more. FirstHideFault (given ++ got ++ more) fault)
         (λ more told.
         let (line, others, l, bad) = next more told in
-        let same = behind hides MOST_LINES 0 found so_far.lines (line ∷ others) H fault so_far.named
-        (omega arith) few in
-        record { first = rw l (same.1 (inl bad)) }))
+        let steps = Steps-hides so_far.lines H found so_far.named (sym count) few in
+        record {
+          first = rw l ((FaultFrom-behind hides_are_judged 0 found so_far.lines (line ∷ others) fault steps).1 bad);
+        }))
 
     -- If the next line of the hide list (a file with one label to hide on each line) is too long, then the reader may
     -- return `LineTooLong` with the number of this line.
@@ -115,7 +122,7 @@ module _ {given : List ℕ} {old : Cutting} {H hidden : List (List ℕ)} (got : 
     hide_too_long few long =
         refused_behind (LineTooLong (found + 1)) tt (omega arith) (λ more told.
         let (line, others, big, l) = HasCut-too_long given got so_far.lines old so_far.cut more long in
-        (line, others, l, inl (few, LineFault.too_long refl big)))
+        (line, others, l, inl (inl (few, LineFault.too_long refl big))))
 
     -- If the hide list (a file with one label to hide on each line) has a line after the last line that is allowed,
     -- then the reader may return `TooManyHidden`.
@@ -124,7 +131,7 @@ module _ {given : List ℕ} {old : Cutting} {H hidden : List (List ℕ)} (got : 
     hide_behind all some =
         refused_behind TooManyHidden tt (omega arith) (λ more told.
         let (line, others, l) = HasCut-more given got so_far.lines old so_far.cut more some in
-        (line, others, l, inr (omega arith, refl)))
+        (line, others, l, inl (inr (omega arith, refl))))
 
     -- If the next line of the hide list (a file with one label to hide on each line) has an error, then the reader may
     -- return this error.
@@ -136,4 +143,4 @@ module _ {given : List ℕ} {old : Cutting} {H hidden : List (List ℕ)} (got : 
         let s = HasCut-line given got so_far.lines old so_far.cut now cuts in
         let l = s more (λ over. none_to_come rest more told (end over)) in
         let others = lines_of (now.ahead ++ more) in
-        (now.line, others, l ∙ append_assoc so_far.lines (now.line ∷ []) others, inl (few, bad)))
+        (now.line, others, l ∙ append_assoc so_far.lines (now.line ∷ []) others, inl (inl (few, bad))))

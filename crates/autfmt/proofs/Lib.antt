@@ -4,9 +4,7 @@ pub mod Labels
 pub mod Lines
 pub mod Cutting
 pub mod FirstFaults
-pub mod LineFaults
 pub mod FaultLaws
-pub mod HideLaws
 pub mod Holding
 pub mod ReaderSteps
 pub mod HideSteps

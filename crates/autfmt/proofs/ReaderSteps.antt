@@ -1,12 +1,12 @@
 -- The lemmas in this file are about the steps in which a system is read. The lemmas describe the state of the reader
 -- after each step, and justify each error that the reader returns. The last lemmas are about the result of reading a
 -- system, which is the system or an error.
-use Rattle.std.proofs.Common.{ℕ, List, ◌++◌, Option, Result, MatchResult, arith, ◌≡◌, ◌⊎◌, ◌+◌, ◌<◌, ◌≤◌, true, false}
-use Rattle.std.proofs.Common.{[], ◌∷◌, length, Some, IfSome, Ok, Err, IfOk, IfErr, refl, sym, ◌∙◌, ap, subst, inl, inr}
-use Rattle.std.proofs.Common.{rules, append_assoc, append-nil}
+use Rattle.std.proofs.Common.{ℕ, List, ◌++◌, Option, Result, MatchResult, arith, ◌≡◌, ◌⊎◌, ⊎_elim, ◌+◌, ◌<◌, ◌≤◌}
+use Rattle.std.proofs.Common.{true, false, [], ◌∷◌, length, None, Some, IfSome, Ok, Err, IfOk, IfErr, refl, sym, ◌∙◌}
+use Rattle.std.proofs.Common.{ap, subst, inl, inr, rules, append_assoc, append-nil}
 use Rattle.std.specs.Io.KnownBytes.{Consumes, IsAtEnd}
 use Rattle.std.proofs.KnownBytes.{Consumes-trans}
-use Rattle.std.proofs.lemmas.{List.Elements.All-nil, Slice.Zip.all_zipped_more}
+use Rattle.std.proofs.lemmas.{List.Elements.All-nil, Slice.Zip.all_zipped_more, Bool.cases_lt}
 use Rattle.std.proofs.lemmas.List.Sorted.{length_permutation, Contains-permutation}
 use Rattle.theory.specs.System.{Transition, IsAmong}
 use Rattle.lts.specs.Lts.{Grouped, IsBuilt}
@@ -15,12 +15,13 @@ use Rattle.autfmt.specs.{Bounds.Bounds, Grammar.TransitionLine, Held.Holds, Read
 use Rattle.autfmt.specs.Outcomes.{Takes, Refuses, ReadsTo}
 use Rattle.autfmt.specs.declared.fault.Fault.TheVariants.{LineTooLong, MissingEdges, ExtraText, Device, Memory}
 use Rattle.autfmt.specs.Texts.{lines_of, Lines, IsShort, GoodHeader, Reads}
-use Rattle.autfmt.specs.Faults.{LineFault, HeaderFault, EdgeFault, EdgesFault, FirstFault}
+use Rattle.autfmt.specs.Faults.{LineFault, HeaderFault, EdgeFault, FirstFault}
 use Rattle.autfmt.specs.Cutter.{Cutting, HasCut, CutsLine, CutsEnd, BeginsTooLong, IsPart}
 use Rattle.autfmt.specs.ReadSoFar.{ReadSoFar, HeldSoFar, ReadsOneMore, HoldsText}
 use Rattle.autfmt.specs.Outcomes.Refuses.{no_memory, failed_source, faulty_text}
-use Rattle.autfmt.proofs.{FirstFaults.behind, Holding.Holds-length}
-use Rattle.autfmt.proofs.FaultLaws.{edges, Reads-from_lines, no_judged_fault}
+use Rattle.autfmt.proofs.{FirstFaults.First, FirstFaults.FaultFrom-behind, FirstFaults.FaultFrom-not_known}
+use Rattle.autfmt.proofs.{FaultLaws.texts_are_judged, FaultLaws.Steps-text, FaultLaws.Reads-from_lines}
+use Rattle.autfmt.proofs.Holding.{Holds-length}
 use Rattle.autfmt.proofs.Cutting.{HasCut-line, HasCut-too_long, HasCut-end, HasCut-more, HasCut-part}
 
 -- Suppose that two calls read bytes from a source (an object from which an input is read), one call after the other.
@@ -125,14 +126,17 @@ module _ {bounds : Bounds} {given : List ℕ} {old : Cutting} {p : Promise} {es 
   -- next line may still become too long, or that all transitions have been read and the input has no error if it ends
   -- here.
   pub transition_failed : (rest : Option (List ℕ)) (failures : ℕ) → length es ≤ p.transitions →
-      (length es < p.transitions) ⊎ (length (old.ahead ++ got) ≡ 0) → failures ≡ 1 →
+      (length es < p.transitions) ⊎ (old.ahead ++ got ≡ []) → failures ≡ 1 →
       (old.over ≡ false) × IsPart (old.ahead ++ got) → Refuses bounds (given ++ got) rest failures Device
   transition_failed rest failures few unjudged failed (open_at, part) =
       let c = HasCut-part given got before old so_far.cut open_at in
       failed_source failed refl
-      (λ f. no_judged_fault bounds (given ++ got) so_far.header so_far.lines (old.ahead ++ got) p.first
-      p.transitions p.states es f
-      c so_far.good so_far.spelled few part unjudged)
+      (λ f known. FaultFrom-not_known (texts_are_judged bounds) None _ (given ++ got) before (old.ahead ++ got) c
+      (Steps-text so_far.lines es (length es) so_far.good so_far.spelled refl few) part
+      (⊎_elim (λ less. inl (length es + 2, λ line long. inl (less, LineFault.too_long refl long)))
+      (λ full. inr (⊎_elim (λ less. absurd (omega arith)) (λ none. none) unjudged, grind arith))
+      (cases_lt (length es) p.transitions))
+      f (λ more. (known more).first))
 
   -- Suppose that the source (the object from which the input is read) fails after the last transition that the header
   -- declares. Then the reader may return `Device`, which is the error of a failed source. The contract allows this
@@ -168,15 +172,15 @@ module _ {bounds : Bounds} {given : List ℕ} {old : Cutting} {p : Promise} {es 
   module _ (found : ℕ) (rest : Option (List ℕ)) (failures : ℕ) (count : length es ≡ found) (sound : failures ≡ 0) where
     refused_behind : (fault : Fault) → IsTextFault fault → found ≤ p.transitions →
         ((more : List ℕ) → rest ≡ Some more → (others : List (List ℕ)) × Lines (given ++ got ++ more) (before ++ others)
-        × EdgesFault p.transitions p.states found others fault) → Refuses bounds (given ++ got) rest failures fault
+        × First (texts_are_judged bounds) (Some (p.transitions, p.states, found)) others fault) →
+        Refuses bounds (given ++ got) rest failures fault
     refused_behind fault kind few next =
         faulty_text sound kind
         (if_told rest (λ more. FirstFault bounds (given ++ got ++ more) fault)
         (λ more told.
         let (others, l, bad) = next more told in
-        let same = behind (edges p.transitions p.states) p.transitions 0 found so_far.lines others es fault
-        so_far.spelled (omega arith) few in
-        record { first = rw l (inr (p.first, p.transitions, p.states, so_far.good, same.1 bad)) }))
+        let steps = Steps-text so_far.lines es found so_far.good so_far.spelled (sym count) few in
+        record { first = rw l ((FaultFrom-behind (texts_are_judged bounds) None _ before others fault steps).1 bad) }))
 
     -- Suppose that the input ends before the last transition that the header declares. Then the reader may return
     -- `MissingEdges`, which says that transitions are missing.
@@ -186,7 +190,7 @@ module _ {bounds : Bounds} {given : List ℕ} {old : Cutting} {p : Promise} {es 
     transition_missing now promised end cuts =
         refused_behind (MissingEdges found) tt (omega arith) (λ more told.
         let l = HasCut-end given got before old so_far.cut cuts.none in
-        ([], rw (none_to_come rest more told (end cuts.over), append-nil, append-nil before) l, (promised, refl)))
+        ([], rw (none_to_come rest more told (end cuts.over), append-nil, append-nil before) l, grind arith))
 
     -- If the next line of the input is too long, then the reader may return `LineTooLong` with the number of this line.
     pub transition_too_long : found < p.transitions → (old.over ≡ false) × BeginsTooLong (old.ahead ++ got) →

@@ -4,6 +4,7 @@
 -- no header. An input has at most one first error.
 use Rattle.std.specs.Prelude.{◌≡◌, ◌⊎◌, ℕ, ◌+◌, ◌<◌, ◌≤◌, ◌==◌, nat_lt, nat_le, List, [], ◌∷◌, ◌++◌, length, Option}
 use Rattle.std.specs.Prelude.{Some, None, if◌then◌else◌}
+use Rattle.theory.specs.System.{Transition}
 use Rattle.autfmt.specs.declared.fault.Fault.{Fault}
 use Rattle.autfmt.specs.declared.fault.Fault.TheVariants.{BadHeader, FirstState, NoStates, TooManyStates}
 use Rattle.autfmt.specs.declared.fault.Fault.TheVariants.{TooManyTransitions, LineTooLong, BadEdge, SourceRange}
@@ -11,14 +12,14 @@ use Rattle.autfmt.specs.declared.fault.Fault.TheVariants.{TargetRange, ExtraText
 use Rattle.autfmt.specs.declared.line.TheConstants.{LONGEST_LINE}
 use Rattle.autfmt.specs.Bounds.{Bounds}
 use Rattle.autfmt.specs.Grammar.{Header, TransitionLine}
-use Rattle.autfmt.specs.Texts.{lines_of, IsShort, GoodHeader}
+use Rattle.autfmt.specs.Texts.{lines_of, IsShort, GoodHeader, SpellsAmong}
 
 -- `LineFault IsRead fault_in k bad line fault` holds if `fault` is the error of `line`, which is line k of an input.
 -- `IsRead x` states that the line has the contents x, and `fault_in x` is the error in x, or `None` if x has no error.
 -- There are three possible errors. First, the line has more than 8192 bytes (`LONGEST_LINE`). Second, the line is not
 -- too long, but has no contents. In this case, `fault` is the error `bad`. Third, the line is not too long and has the
 -- contents x, and `fault` is the error in x. If a line is not allowed because too many lines come before it,
--- `NextFault` defines its error.
+-- `BadLine` defines its error.
 pub data LineFault {X : Type 0} (IsRead : X → Type 0) (fault_in : X → Option Fault) (k : ℕ) (bad : Fault)
     (line : List ℕ) (fault : Fault) : Type 0 where
   too_long : fault ≡ LineTooLong k → LONGEST_LINE < length line → LineFault IsRead fault_in k bad line fault
@@ -51,46 +52,52 @@ ends_fault n k (s, a, t) =
 abbrev pub EdgeFault : ℕ → ℕ → List ℕ → Fault → Type 0
 EdgeFault n k line = LineFault (λ x. TransitionLine line x.0 x.1 x.2) (ends_fault n k) k (BadEdge k) line
 
--- `NextFault most Bad extra found line fault` holds if `fault` is the error of a line that follows `found` other lines.
--- At most `most` lines are allowed. If the line is allowed, its error is defined by `Bad`: `Bad found line fault`
--- states that `fault` is the error of the line. If the line is not allowed, its error is `extra found`.
-abbrev pub NextFault : ℕ → (ℕ → List ℕ → Fault → Type 0) → (ℕ → Fault) → ℕ → List ℕ → Fault → Type 0
-NextFault most Bad extra found line fault =
-    ((found < most) × Bad found line fault) ⊎ ((most ≤ found) × (fault ≡ extra found))
+-- `FaultFrom Good Bad end_fault before lines fault` holds if `fault` is the first error of an input in the lines
+-- `lines`, which follow the correct lines that `before` describes. `Good before line next` states that `line` is a
+-- correct line after these lines, and that `next` describes them and `line`. `Bad before line f` states that f is the
+-- error of such a line. `end_fault before` is the error of an input that ends after the lines that `before` describes,
+-- or `None` if there is no error. If some of the lines have an error, `fault` is the error of the first such line. If
+-- none of the lines has an error, `fault` is the error of an input that ends after these lines.
+abbrev pub FaultFrom : {S : Type 0} → (S → List ℕ → S → Type 0) → (S → List ℕ → Fault → Type 0) → (S → Option Fault) →
+    S → List (List ℕ) → Fault → Type 0
+FaultFrom Good Bad end_fault before [] fault = end_fault before ≡ Some fault
+FaultFrom {S = S} Good Bad end_fault before (line ∷ others) fault =
+    Bad before line fault ⊎ ((next : S) × Good before line next × FaultFrom Good Bad end_fault next others fault)
 
--- `FaultFrom Next Lack found lines fault` holds if `fault` is the first error of an input in the lines `lines`, which
--- follow `found` lines without an error. `Next found line f` states that f is the error of a line that follows `found`
--- lines, and `Lack found f` states that f is the error of an input that ends after `found` lines. If some of the lines
--- have an error, `fault` is the error of the first such line. If none of the lines has an error, `fault` is the error
--- of an input that ends after these lines.
-abbrev pub FaultFrom : (ℕ → List ℕ → Fault → Type 0) → (ℕ → Fault → Type 0) → ℕ → List (List ℕ) → Fault → Type 0
-FaultFrom Next Lack found [] fault = Lack found fault
-FaultFrom Next Lack found (line ∷ others) fault =
-    Next found line fault ⊎ (((f : Fault) → ¬ Next found line f) × FaultFrom Next Lack (found + 1) others fault)
+-- A value of the type `LinesBefore` describes the lines of an input before a certain line. The value is `None` if there
+-- are no such lines. It is `Some (m, n, found)` if these lines are a correct header, which declares m transitions and n
+-- states, and `found` correct transitions.
+abbrev pub LinesBefore : Type 0
+LinesBefore = Option (ℕ × ℕ × ℕ)
 
--- `EndFault m found fault` holds if `fault` is the error of an input that ends after `found` transitions although its
--- header declares m transitions. There is such an error only if `found` is less than m.
-abbrev pub EndFault : ℕ → ℕ → Fault → Type 0
-EndFault m found fault = (found < m) × (fault ≡ MissingEdges found)
+-- `GoodLine bounds before line next` holds if `line` is a correct header or a correct transition of an input, where
+-- `before` describes the lines before `line`, and `next` describes the lines up to `line`. The limits `bounds` restrict
+-- the numbers that a header may declare.
+abbrev pub GoodLine : Bounds → LinesBefore → List ℕ → LinesBefore → Type 0
+GoodLine bounds None line next = (f m n : ℕ) × GoodHeader bounds line f m n × (next ≡ Some (m, n, 0))
+GoodLine bounds (Some (m, n, found)) line next =
+    (found < m) × ((e : Transition) × SpellsAmong n line e × (next ≡ Some (m, n, found + 1)))
 
--- `EdgesFault m n found lines fault` holds if `fault` is the first error of an input in the lines `lines`. These lines
--- follow a correct header, which declares m transitions and n states, and `found` correct transitions.
-abbrev pub EdgesFault : (m n found : ℕ) → List (List ℕ) → Fault → Type 0
-EdgesFault m n =
-    FaultFrom (NextFault m (λ found. EdgeFault n (found + 2)) (λ found. ExtraText (found + 2))) (EndFault m)
+-- `BadLine bounds before line fault` holds if `line` is not correct, and `fault` is the error of this line, where
+-- `before` describes the lines before `line`. The error of line 1 is defined by `HeaderFault`. A line that follows the
+-- last transition that the header declares has the error `ExtraText`. The error of any other line is defined by
+-- `EdgeFault`.
+abbrev pub BadLine : Bounds → LinesBefore → List ℕ → Fault → Type 0
+BadLine bounds None line fault = HeaderFault bounds line fault
+BadLine bounds (Some (m, n, found)) line fault =
+    ((found < m) × EdgeFault n (found + 2) line fault) ⊎ ((m ≤ found) × (fault ≡ ExtraText (found + 2)))
 
--- `LinesFault bounds lines fault` holds if `fault` is the first error of an input that consists of the lines `lines`.
--- If the input has no line, its error is that it has no header. If the header has an error, `fault` is this error.
--- Otherwise, `fault` is the first error after the header (`EdgesFault`).
-abbrev pub LinesFault : Bounds → List (List ℕ) → Fault → Type 0
-LinesFault bounds [] fault = fault ≡ BadHeader
-LinesFault bounds (line ∷ others) fault =
-    HeaderFault bounds line fault ⊎ ((f m n : ℕ) × GoodHeader bounds line f m n × EdgesFault m n 0 others fault)
+-- `end_fault before` is the error of an input that consists of the lines that `before` describes, or `None` if there is
+-- no error. If the input has no lines, the error is that it has no header. If it has fewer transitions than its header
+-- declares, the error is that transitions are missing.
+abbrev pub end_fault : LinesBefore → Option Fault
+end_fault None = Some BadHeader
+end_fault (Some (m, n, found)) = if nat_lt found m then Some (MissingEdges found) else None
 
 -- `FirstFault bounds text fault` holds if `fault` is the first error of the input `text`, where the header may declare
 -- only numbers within the limits `bounds`.
 pub record FirstFault (bounds : Bounds) (text : List ℕ) (fault : Fault) : Type 0 where
-  pub first : LinesFault bounds (lines_of text) fault
+  pub first : FaultFrom (GoodLine bounds) (BadLine bounds) end_fault None (lines_of text) fault
 
 -- `JudgedFault bounds given fault` holds if `fault` is the first error of every input that begins with the bytes
 -- `given`. Therefore a reader that has read only these bytes can already report the error.

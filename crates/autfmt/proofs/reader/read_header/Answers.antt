@@ -1,7 +1,8 @@
-use Rattle.std.proofs.Common.{refl}
+use Rattle.std.proofs.Common.{[], None, refl, inl}
 use Rattle.std.proofs.lemmas.Result.{err_from_is_err_and}
 use Rattle.autfmt.specs.Outcomes.Refuses.{failed_source}
-use Rattle.autfmt.proofs.FaultLaws.{no_judged_header}
+use Rattle.autfmt.specs.Faults.LineFault.{too_long}
+use Rattle.autfmt.proofs.{FirstFaults.FaultFrom-not_known, FaultLaws.texts_are_judged}
 use Rattle.autfmt.proofs.ReaderSteps.{fresh_open, header_too_long, header_answer}
 use Rattle.autfmt.proofs.reader.read_header.Goals as goal
 
@@ -15,8 +16,10 @@ returns-in_err-advance-clause-header g c =
       given = s.0;
       took = s.1;
       outcome = rw (p.1, p.2)
-          (failed_source c.in_err-advance.ensures.failures refl (λ f. no_judged_header _ s.0 f (rw c.requires.fresh at
-          s.2.1)));
+          (failed_source c.in_err-advance.ensures.failures refl
+          (λ f known. FaultFrom-not_known (texts_are_judged c.args.lim.now) None None s.0 [] s.0 (λ more. refl) refl
+          (rw c.requires.fresh at s.2.1) (inl (1, λ line long. too_long refl long)) f
+          (λ more. (known more).first)));
     }
 
 pub returns-in-TooLong-clause-header : goal.returns-in-TooLong-clause-header

@@ -1,7 +1,7 @@
--- The clauses of the contract of `a_hide_list_reads_or_has_a_fault` follow from lemmas of `proofs/HideLaws` and
+-- The clauses of the contract of `a_hide_list_reads_or_has_a_fault` follow from lemmas of `proofs/FaultLaws` and
 -- `proofs/FirstFaults`.
 use Rattle.autfmt.specs.HideLists.{FirstHideFault}
-use Rattle.autfmt.proofs.{FirstFaults.without_fault, HideLaws.hide_text_judged, HideLaws.HideReads-no_fault}
+use Rattle.autfmt.proofs.{FirstFaults.without_fault, FaultLaws.hide_text_judged, FaultLaws.HideReads-no_fault}
 use Rattle.autfmt.proofs.text_laws.a_hide_list_reads_or_has_a_fault.Goals as goal
 
 pub returns-clause-one : goal.returns-clause-one
