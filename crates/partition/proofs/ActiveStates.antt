@@ -1,10 +1,9 @@
 -- The active states, which are the states that a round processes, are stored in ascending order. States in singleton
 -- blocks (blocks with one state) may be dropped from the active states.
 use Rattle.std.proofs.Common.{rules, ◌∙◌, ℕ, ◌+◌, ◌<◌, List, [], ◌∷◌, ◌++◌, length, slice_index, Contains, arith, ◌≡◌}
-use Rattle.std.proofs.Common.{◌⊎◌, set}
-use Rattle.std.proofs.lemmas.{Grind.common_steps, List.Kept.AllPairs-from_increasing}
-use Rattle.std.proofs.lemmas.{Map.Keys.sorted_from_strictly_increasing, Map.Views.length-le_from_below, Bool.cases_lt}
-use Rattle.std.proofs.lemmas.List.{get_or_default, get_or-set_same}
+use Rattle.std.proofs.{Common.◌⊎◌, Common.set, lemmas.Grind.common_steps}
+use Rattle.std.proofs.lemmas.List.{Kept.AllPairs-from_increasing, get_or_default, get_or-set_same}
+use Rattle.std.proofs.lemmas.{Bool.cases_lt, Map.Keys.sorted_from_strictly_increasing, Map.Views.length-le_from_below}
 use Rattle.std.specs.List.Sorted.{IsStrictlyIncreasing}
 use Rattle.partition.specs.{Blocks.AreActive, Blocks.IsMember, Blocks.AreSameOrNone, Splitting.IsSingleton}
 

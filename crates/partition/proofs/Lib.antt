@@ -2,5 +2,5 @@ pub mod CallerLemmas
 pub mod ActiveStates
 pub mod Tallying
 pub mod Cutting
-pub mod Spans
+pub mod BlockLemmas
 pub mod SplitAll

@@ -1,6 +1,5 @@
-use Rattle.std.proofs.Common.{slice_index, arith, rules}
-use Rattle.std.proofs.lemmas.List.{get_or_read}
-use Rattle.partition.proofs.Blocks.{Renumbered-more}
+use Rattle.std.proofs.{Common.slice_index, Common.arith, Common.rules, lemmas.List.get_or_read}
+use Rattle.partition.proofs.BlockLemmas.{Renumbered-more}
 use Rattle.partition.proofs.partition.renumber.Goals as goal
 
 pub loop-s-preserved : goal.loop-s-preserved
