@@ -159,18 +159,12 @@ module _ (u : Under) (s : ℕ) (lts : IsLts u.l) (laws : Laws)
         } in
         let has : HasPair Branching u.l u.blocks s z.0 z.1 = rw pair
         ((lts.in_range.each k (0, 0, 0) at).label, (x, target_of e, led, its_step, refl, other)) in
-        rw is (reads after (starts_with_of_eq _ _ refl) (record {
-          size = found.size;
-          marked = found.marked;
-          first = found.first;
-          led = found.led;
-          few = found.few;
-          own = λ y c. elim (Contains-push_cases old.pairs z y c) [
-            | inl d ↦ found.own y d
-            | inr same ↦ subst (λ p. HasPair Branching u.l u.blocks s p.0 p.1) same has
-          ];
-          taken = λ j h k l is. keeps _ (found.taken j h k l is);
-        }) keeps (record {
+        let own : (y : ℕ × ℕ) → Contains after.pairs y → HasPair Branching u.l u.blocks s y.0 y.1
+        = λ y c. elim (Contains-push_cases old.pairs z y c) [
+          | inl d ↦ found.own y d
+          | inr same ↦ subst (λ p. HasPair Branching u.l u.blocks s p.0 p.1) same has
+        ] in
+        rw is (reads after (starts_with_of_eq _ _ refl) (search (rules, own, keeps, found.taken)) keeps (record {
           followed = λ inert. absurd (other inert);
           shown = λ _. rw (← pair) (Contains-push old.pairs z);
         }))

@@ -5,19 +5,14 @@ use Rattle.lts.specs.Meter.{Counts, Costs, CostsUpTo}
 use Rattle.refine.proofs.one_round.round.Goals as goal
 
 -- A meter counts rounds and visits (reads of transitions). Suppose that the meter counts one round, and after that at
--- least `least` and at most n visits, and no further round. Then the meter has counted one round and these visits.
-one_round_costs : (old begun at : Counts) (least n : ℕ) → Costs old begun 1 0 0 → Costs begun at 0 least n
-    → Costs old at 1 least n
-one_round_costs old begun at least n start read = omega arith
-
--- Under the same conditions, the number of visits is at most n times the number of rounds.
-begun_up_to : (old begun at : Counts) (least n : ℕ) → Costs old begun 1 0 0 → Costs begun at 0 least n →
-    CostsUpTo old at 1 n
-begun_up_to old begun at least n start read = (1, omega arith, omega arith)
+-- least `least` and at most n visits, and no further round. Then the meter has counted one round and these visits, and
+-- the number of visits is at most n times the number of rounds.
+one_round : (old begun at : Counts) (least n : ℕ) → Costs old begun 1 0 0 → Costs begun at 0 least n
+    → Costs old at 1 least n × CostsUpTo old at 1 n
+one_round old begun at least n start read = (omega arith, (1, omega arith, omega arith))
 
 pub returns-in_err-fill-clause-err : goal.returns-in_err-fill-clause-err
-returns-in_err-fill-clause-err g c =
-    let most = begun_up_to _ _ _ _ _ c.start_round.ensures c.fill.ensures.visits in search rules
+returns-in_err-fill-clause-err g c = search (rules, one_round _ _ _ _ _ c.start_round.ensures c.fill.ensures.visits)
 
 pub returns-clause-states : goal.returns-clause-states
 returns-clause-states g c = IfOk-weaker c.split.result _ _ (λ q size. size ∙ c.requires.states) c.split.ensures.states
@@ -34,8 +29,7 @@ returns-clause-split g c =
     )) c.split.ensures.blocks
 
 pub returns-clause-costs : goal.returns-clause-costs
-returns-clause-costs g c =
-    let made = one_round_costs _ _ _ _ _ c.start_round.ensures c.in_ok-fill.ensures.visits in search rules
+returns-clause-costs g c = search (rules, one_round _ _ _ _ _ c.start_round.ensures c.in_ok-fill.ensures.visits)
 
 pub returns-clause-err : goal.returns-clause-err
-returns-clause-err g c = let most = begun_up_to _ _ _ _ _ c.start_round.ensures c.fill.ensures.visits in search rules
+returns-clause-err g c = search (rules, one_round _ _ _ _ _ c.start_round.ensures c.fill.ensures.visits)

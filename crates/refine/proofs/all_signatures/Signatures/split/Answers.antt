@@ -1,15 +1,28 @@
-use Rattle.std.proofs.Common.{◌≡◌, ◌↔◌, ℕ, ◌<◌, length, slice_index, subst}
-use Rattle.std.proofs.lemmas.Result.{IfOk-weaker}
-use Rattle.refine.proofs.Filling.{split_alike}
+use Rattle.std.proofs.Common.{length, slice_index, ap, arith}
+use Rattle.std.proofs.lemmas.{List.get_or-map, List.length-map, Result.IfOk-weaker}
 use Rattle.refine.proofs.all_signatures.Signatures.split.Goals as goal
 
+-- The blocks are split by the IDs of the signatures of their states, and the resulting blocks then get new IDs. Two
+-- states share a resulting block if and only if they shared an old block and have equal signatures.
 pub returns-clause-blocks : goal.returns-clause-blocks
 returns-clause-blocks c =
-    IfOk-weaker c.renumber.result _ _ (λ q same.
-    split_alike c.self.inside.interned c.args.self.now c.self.inside.signature_ids.items _ c.args.p.now _
-    c.in_ok-parts.parts.block_ids q _ _ c.self.view_is c.len.ensures.interned c.self.invariant.0
-    c.deref.ensures.value c.requires.states c.in_ok-blocks.ensures.block_ids c.in_ok-parts.ensures.splits
-    (subst (λ new. (s t : ℕ) → s < length new → t < length new
-    → (slice_index q s ≡ slice_index q t) ↔ (slice_index new s ≡ slice_index new t)) c.block_ids.ensures.block_ids
-    same))
-    c.renumber.ensures.same
+    let ids = c.self.inside.signature_ids.items in
+    let split = rw (c.deref.ensures.value, c.in_ok-blocks.ensures.block_ids) at c.in_ok-parts.ensures.splits in
+    let each = c.self.invariant.0 in
+    let long = ap length c.self.view_is in
+    IfOk-weaker c.renumber.result _ _ (λ q same s t h k.
+    let equal = c.len.ensures.interned.different (slice_index ids s) (slice_index ids t) in
+    rw (← c.self.view_is) (grind (
+      arith,
+      length-map,
+      get_or-map,
+      same s t,
+      split.alike s t,
+      equal,
+      each s 0,
+      each t 0,
+      split.states,
+      long,
+      c.requires.states,
+      c.block_ids.ensures.block_ids,
+    ))) c.renumber.ensures.same
