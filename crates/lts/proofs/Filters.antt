@@ -1,10 +1,12 @@
 -- Lemmas about filtered lists and mapped lists: their elements and their lengths, and the result of filtering a list
 -- that was filtered or mapped before.
 use Rattle.std.proofs.Common.{get_or, ◌≡◌, Bool, true, List, [], ◌∷◌, map, Contains, refl, ap, ◌∙◌, arith, rules, ℕ}
-use Rattle.std.proofs.Common.{◌+◌, false, cond, ◌&&◌, length, filter, All}
-use Rattle.std.proofs.lemmas.{Bool.cond_both, Bool.cond-true, Bool.cond-false, List.length-map, List.get_or-map}
+use Rattle.std.proofs.Common.{◌+◌, ◌<◌, ◌≤◌, ◌↔◌, false, cond, ◌&&◌, length, filter, All, take, drop}
+use Rattle.std.specs.List.{slice_range}
+use Rattle.std.proofs.lemmas.{Bool.cond_both, Bool.cond-true, Bool.cond-false, Bool.cases_Bool, List.length-map}
+use Rattle.std.proofs.lemmas.{List.get_or-map, List.places, List.append-nil, List.Edits.split_between}
 use Rattle.std.proofs.lemmas.List.Elements.{Contains-get_or, All-contains, All-contains_itself, All-map, All-filter}
-use Rattle.std.proofs.lemmas.List.Elements.{filter_passes, All-head, All-tail}
+use Rattle.std.proofs.lemmas.List.Elements.{filter_passes, All-head, All-tail, filter-append}
 use Rattle.theory.proofs.CallerLemmas.{contains_here, contains_there, contains_cases, contains_none}
 
 -- If the list xs contains the element x, then the list that results from applying the function f to each element of xs
@@ -53,6 +55,20 @@ filter-none p (x ∷ xs) h = search (rules, cond-false, All-head, filter-none p 
 pub filter-whole : {X : Type 0} (p : X → Bool) (xs : List X) → All (λ x. p x ≡ true) xs → filter p xs ≡ xs
 filter-whole p [] h = refl
 filter-whole p (x ∷ xs) h = search (rules, cond-true, All-head, filter-whole p xs, All-tail)
+
+-- Suppose that a is at most b, and that exactly the elements at the indices k with a <= k < b have the property p. Then
+-- filtering the list by p results in the list of these elements.
+pub filter-slice : {X : Type 0} (p : X → Bool) (xs : List X) (a b : ℕ) → a ≤ b → b ≤ length xs →
+    ((k : ℕ) (d : X) → k < length xs → (p (get_or xs k d) ≡ true) ↔ ((a ≤ k) × (k < b))) →
+    filter p xs ≡ slice_range xs a b
+filter-slice p xs a b low high each =
+    let before : filter p (take a xs) ≡ [] = filter-none p _
+    (λ k d h. grind (arith, places, cases_Bool (p (get_or xs k d)), each k d)) in
+    let within : filter p (slice_range xs a b) ≡ slice_range xs a b = filter-whole p _
+    (λ k d h. grind (arith, places, each (a + k) d)) in
+    let behind : filter p (drop b xs) ≡ [] = filter-none p _
+    (λ k d h. grind (arith, places, cases_Bool (p (get_or xs (b + k) d)), each (b + k) d)) in
+    ap (filter p) (split_between xs a b low) ∙ simp (filter-append, before, within, behind, append-nil)
 
 -- Filtering a list by the property q and then by the property p keeps exactly the elements that have both properties.
 pub filter-filter : {X : Type 0} (p q r : X → Bool) → ((x : X) → r x ≡ (q x && p x)) → (xs : List X) →

@@ -34,40 +34,39 @@ pub record HasAppended (l : Grouped) (shift : ℕ) (old_labels : List (List ℕ)
   pub added : AddsShifted shift (map (transition_of l.labels) (take k l.places)) old_labels old_es labels es
   pub visits : Costs start now 0 k k
 
--- These lemmas assume that a triple e (source, label ID, target) with the label a is appended to the list es.
-module _ (old new : List (List ℕ)) (states : ℕ) (es : List Triple) (e : Triple) (a : List ℕ)
-    (g : IsJoined old states es) (table : IsTable new) (put : Interns old a new) (keeps : KeepsLabels old new)
-    (number : IsLabelId new (label_of e) a) where
+-- These lemmas assume that the first k transitions of the system l were appended to a union (`HasAppended`), and that
+-- the triple e (source, label ID, target) with the label a is appended next.
+module _ {l : Grouped} {shift k : ℕ} {l0 old new : List (List ℕ)} {e0 es : List Triple} {start at : Counts}
+    (e : Triple) (a : List ℕ) (has : HasAppended l shift l0 e0 old es start at k) (table : IsTable new)
+    (put : Interns old a new) (keeps : KeepsLabels old new) (number : IsLabelId new (label_of e) a) where
   -- If the label a was appended to the label table, it is the label of the triple e. So each label of the table is
   -- still the label of some triple.
-  carried_all : (k : ℕ) → k < length new → (x : Triple) × Contains (es ++ e ∷ []) x × (label_of x ≡ k)
-  carried_all k h = elim (cases_lt k (length old)) [
-    | inl l ↦ let c = g.carried k l in (c.0, Contains-append_left es (e ∷ []) c.0 c.1, c.2)
+  carried_all : (i : ℕ) → i < length new → (x : Triple) × Contains (es ++ e ∷ []) x × (label_of x ≡ i)
+  carried_all i h = elim (cases_lt i (length old)) [
+    | inl l ↦ let c = has.joined.carried i l in (c.0, Contains-append_left es (e ∷ []) c.0 c.1, c.2)
     | inr l ↦
-        let same = table.different (label_of e) k number.below h in
+        let same = table.different (label_of e) i number.below h in
         let grown = length_push {X = List ℕ} in let last = get_or_push {X = List ℕ} in
         (e, Contains-push es e, grind (arith, same, number.text, put, grown, last))
   ]
 
   -- States are numbers. The triples of a union represent the transitions of the system l with the number `shift` added
-  -- to the source and the target of each transition. Suppose that the triples es represent the first k transitions of
-  -- l, after the triples of the previous system. Suppose also that the triple e represents the transition at the index
-  -- k in the list of all transitions of l. Then es followed by e represent the first k + 1 transitions of l, and still
-  -- satisfy `IsJoined`.
-  pub joins_next : (l0 : List (List ℕ)) (e0 : List Triple) (shift : ℕ) (l : Grouped) (k : ℕ)
-      → states ≡ shift + l.states → k < length l.places → IsTriple (length l.labels) l.states (place_at l.places k)
-      → source_of e ≡ shift + source_of (place_at l.places k) → a ≡ text_of l.labels (label_of (place_at l.places k))
-      → target_of e ≡ shift + target_of (place_at l.places k)
-      → AddsShifted shift (map (transition_of l.labels) (take k l.places)) l0 e0 old es
-      → IsJoined new states (es ++ e ∷ [])
-      × AddsShifted shift (map (transition_of l.labels) (take (k + 1) l.places)) l0 e0 new (es ++ e ∷ [])
-  joins_next l0 e0 shift l k size h is source label target up =
-      let kept = transitions-kept old new states es keeps g.each in
+  -- to the source and the target of each transition. Suppose that the triple e represents the transition at the index k
+  -- in the list of all transitions of l. Then, after e was appended, the first k + 1 transitions of l are appended.
+  pub joins_next : (now : Counts) → IsLts l → k < length l.places → source_of e ≡ shift + source_of (place_at l.places k) →
+      a ≡ text_of l.labels (label_of (place_at l.places k)) → target_of e ≡ shift + target_of (place_at l.places k) →
+      Costs at now 0 1 1 → HasAppended l shift l0 e0 new (es ++ e ∷ []) start now (k + 1)
+  joins_next now lts h source label target visit =
+      let joined = has.joined in let is = lts.in_range.each k (0, 0, 0) h in let added = has.added in
+      let kept = transitions-kept old new (shift + l.states) es keeps joined.each in
       let line : transition_of new e ≡ shifted shift (transition_of l.labels (place_at l.places k)) =
-      λ i. record { source = source i; label = (number.text ∙ label) i; target = target i } in (
-        grind (arith, common_steps, carried_all),
-        rw (take_more l.places k (0, 0, 0) h) (search (rules, map_push, map-append, append_assoc, kept, line, up)),
-      )
+      λ i. record { source = source i; label = (number.text ∙ label) i; target = target i } in record {
+        joined = grind (arith, common_steps, carried_all);
+        added =
+            rw (take_more l.places k (0, 0, 0) h)
+            (search (rules, map_push, map-append, append_assoc, kept, line, added));
+        visits = grind (arith, has.visits, visit);
+      }
 
 -- Suppose that triples for the transitions us are appended to the list of triples. Then the number of triples increases
 -- by the number of transitions in us.
@@ -88,9 +87,8 @@ ascending-union a b la lb =
     ascending-append (λ e. e.source) a.states (map (transition_of a.labels) a.places)
     (map (shifted a.states) (map (transition_of b.labels) b.places))
     (λ k d h. let s = (la.system.transitions k d h).source in omega arith)
-    (All-map (λ e. a.states ≤ e.source) (shifted a.states) (map (transition_of b.labels) b.places)
-    (λ k d h. omega arith))
-    (ascending-map (λ e. e.source) (transition_of a.labels) a.places la.ascending)
+    (All-map (λ e. a.states ≤ e.source) (shifted a.states) _ (λ k d h. omega arith))
+    (search (rules, ascending-map, la.ascending))
     (ascending-map (λ e. e.source) (shifted a.states) (map (transition_of b.labels) b.places)
     (ascending-map (λ e. a.states + e.source) (transition_of b.labels) b.places
     (λ i j d h l. omega (arith, lb.ascending i j d h l))))

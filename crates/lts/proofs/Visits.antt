@@ -2,19 +2,18 @@
 -- was visited before and is read again, the meter does not count the second read as another visit. The lemmas count the
 -- visits that are needed to read all transitions of a state or of the system. The place of a transition is its index in
 -- the list of all transitions. The last lemmas are about a set of places that is stored as one bit for each place.
-use Rattle.std.proofs.Common.{rules, ◌≡◌, ◌∙◌, ◌↔◌, ℕ, suc, ◌+◌, ◌-◌, ◌<◌, ◌≤◌, Bool, true, false, not, cond, ◌&&◌, eqb}
-use Rattle.std.proofs.Common.{List, [], ◌∷◌, ◌++◌, length, map, Contains, sym, ap, subst, refl, arith, ◌*◌, ◌/◌, ◌%◌}
-use Rattle.std.proofs.Common.{◌^◌, get_or, inl, inr, slice_index_or, slice_set, w64, Decides, All, filter, sum_by}
-use Rattle.std.proofs.Common.{eq-eqb, ne_eqb, eqb-true, length-append, append-nil, get_or-set_same, get_or-set_other}
-use Rattle.std.proofs.Common.{bit_or}
+use Rattle.std.proofs.Common.{rules, ◌≡◌, ◌∙◌, ℕ, suc, ◌+◌, ◌-◌, ◌<◌, ◌≤◌, Bool, true, false, not, cond, ◌&&◌, eqb}
+use Rattle.std.proofs.Common.{List, [], ◌∷◌, ◌++◌, length, map, Contains, sym, ap, refl, arith, ◌*◌, ◌/◌, ◌%◌, ◌^◌}
+use Rattle.std.proofs.Common.{get_or, inl, inr, slice_index_or, slice_set, w64, Decides, All, filter, sum_by, ne_eqb}
+use Rattle.std.proofs.Common.{length-append, get_or-set_same, get_or-set_other, bit_or}
 use Rattle.std.specs.{List.IsDistinct, List.range_with_len, Int.bit_at}
 use Rattle.std.proofs.Math.Bool.{and_comm}
 use Rattle.std.proofs.lemmas.{Bool.cases_Bool, Bool.false_from_ne_true, Bool.cases_eq, Cmp.nat_eq_equiv}
 use Rattle.std.proofs.lemmas.{List.Filters.length-filter_both, Map.Keys.IsDistinct-push, Map.Keys.IsDistinct-from_apart}
 use Rattle.std.proofs.lemmas.{Map.Made.is_member-Decides, Map.Made.length-IsIntersection, List.Folds.list_any-append}
-use Rattle.std.proofs.lemmas.Bool.Decides.{Decides-eqb, same_from_decides, Decides-like}
-use Rattle.std.proofs.lemmas.List.{length-map, places, same_lists, get_or_past, get_or_default}
-use Rattle.std.proofs.lemmas.List.Elements.{All-contains, All-nil, All-push, filter-append, Contains-append_left}
+use Rattle.std.proofs.lemmas.List.{length-take, length-drop, length-map, places, same_lists, get_or_past}
+use Rattle.std.proofs.lemmas.Bool.Decides.{Decides-eqb, same_from_decides, Decides-like, nat_tests}
+use Rattle.std.proofs.lemmas.List.Elements.{All-contains, All-nil, All-push, Contains-append_left}
 use Rattle.std.proofs.lemmas.List.Elements.{Contains-append_right, Contains-append_cases, Contains-push}
 use Rattle.std.proofs.lemmas.List.Elements.{Contains-push_cases, Contains-get_or}
 use Rattle.std.proofs.lemmas.List.FromFn.{length-range_with_len, get_or-range_with_len, fill_by_all}
@@ -22,7 +21,7 @@ use Rattle.std.proofs.lemmas.List.Sums.{length-filter, sum_by-cons, sum_by-appen
 use Rattle.std.proofs.lemmas.Nat.Bits.{bit_at_set_same, bit_at_set_other, bit_at-zero}
 use Rattle.lts.specs.{Lts.Triple, Lts.source_of, Lts.row_of, Lts.place_at, Lts.IsRow, Meter.Counts}
 use Rattle.lts.specs.Visited.{AreVisited, HasVisited, is_visited, price, price_between, remaining_of, HaveBits}
-use Rattle.lts.proofs.Filters.{filter-none, filter-whole, filter-filter, filter-map}
+use Rattle.lts.proofs.Filters.{filter-whole, filter-filter, filter-map, filter-slice}
 
 pub visited_Decides : (visited : List ℕ) (k : ℕ) → Decides (is_visited visited k) (Contains visited k)
 visited_Decides = is_member-Decides Decides-eqb
@@ -32,31 +31,8 @@ range-append : (a m n b l : ℕ) → a + m ≡ b → m + n ≡ l → range_with_
 range-append a m n b l e f = same_lists _ _ (search (rules, length-append, length-range_with_len))
     (λ k d h. grind (arith, places, get_or-range_with_len, length-range_with_len))
 
-in_range : (P : ℕ → Type 0) (a n : ℕ) → ((k : ℕ) → a ≤ k → k < a + n → P k) → All P (range_with_len a n)
-in_range P a n h i d l = let below : i < n = omega (arith, l, length-range_with_len a n) in
-    subst P (sym (get_or-range_with_len a n i d below)) (h (a + i) (omega arith) (omega arith))
-
--- Suppose that `start` is at most `end`, and that `end` is at most n. Suppose also that, for each number k less than n,
--- p holds for k if and only if `start` <= k < `end`. Then filtering the numbers less than n by p results in the list of
--- the numbers from `start` to `end` - 1.
-filter-range : (p : ℕ → Bool) (start end n : ℕ) → start ≤ end → end ≤ n →
-    ((k : ℕ) → k < n → (p k ≡ true) ↔ ((start ≤ k) × (k < end))) →
-    filter p (range_with_len 0 n) ≡ range_with_len start (end - start)
-filter-range p start end n forward within inside =
-    let none = λ (k : ℕ) (l : k < n) (out : (start ≤ k) × (k < end) → ⊥). false_from_ne_true (p k)
-    (λ e. out ((inside k l).0 e)) in
-    rw (
-      range-append 0 start (n - start) start n (omega arith) (omega arith),
-      range-append start (end - start) (n - end) end (n - start) (omega arith) (omega arith),
-      filter-append,
-      filter-append,
-      filter-none p (range_with_len 0 start)
-          (in_range (λ k. p k ≡ false) 0 start (λ k l h. none k (omega arith) (λ i. omega arith))),
-      filter-whole p (range_with_len start (end - start)) (in_range (λ k. p k ≡ true) start (end - start)
-          (λ k l h. (inside k (omega arith)).1 (l, omega arith))),
-      filter-none p _ (in_range (λ k. p k ≡ false) end (n - end) (λ k l h. none k (omega arith) (λ i. omega arith))),
-      append-nil,
-    )
+all_below : (n : ℕ) → All (λ k. k < n) (range_with_len 0 n)
+all_below n k d h = grind (arith, length-range_with_len, get_or-range_with_len)
 
 -- Reading an empty range of transitions needs no visit (a read of a transition that the meter counts).
 pub price_none : (visited : List ℕ) (k : ℕ) → price_between visited k k ≡ 0
@@ -87,15 +63,20 @@ price-sum p (k ∷ ks) = let rest = price-sum p ks in let more = sum_by-cons (λ
 -- of the state s equals the number of transitions of s that were not visited before.
 pub row_left : (visited : List ℕ) (places : List Triple) (s start end : ℕ) → IsRow places s start end →
     length (row_of s (remaining_of visited places)) ≡ price_between visited start end
-row_left visited places s start end row = let fresh : ℕ → Bool = λ k. not (is_visited visited k) in
-    let here : ℕ → Bool = λ k. eqb (source_of (place_at places k)) s in
-    let all : List ℕ = range_with_len 0 (length places) in
-    ap length (filter-map (λ e. eqb (source_of e) s) (place_at places) (filter fresh all))
-    ∙ length-map (filter here (filter fresh all)) (place_at places)
+row_left visited es s start end is = let fresh : ℕ → Bool = λ k. not (is_visited visited k) in
+    let here : ℕ → Bool = λ k. eqb (source_of (place_at es k)) s in
+    let all : List ℕ = range_with_len 0 (length es) in
+    let row : filter here all ≡ range_with_len start (end - start) =
+    filter-slice here all start end (omega (arith, is.count))
+    (omega (arith, is.within, length-range_with_len 0 (length es)))
+    (λ k d l. grind (arith, nat_tests, is.exactly k, length-range_with_len, get_or-range_with_len))
+    ∙ same_lists _ _ (simp (length-take, length-drop, length-range_with_len) (omega (arith, is.within)))
+    (λ k d h. grind (arith, places, get_or-range_with_len, length-range_with_len, is.within)) in
+    ap length (filter-map (λ e. eqb (source_of e) s) (place_at es) (filter fresh all))
+    ∙ length-map (filter here (filter fresh all)) (place_at es)
     ∙ ap length (filter-filter here fresh (λ k. fresh k && here k) (λ k. refl) all
     ∙ sym (filter-filter fresh here (λ k. fresh k && here k) (λ k. and_comm (fresh k) (here k)) all)
-    ∙ ap (filter fresh) (filter-range here start end (length places) (omega (arith, row.count)) row.within
-    (λ k l. (λ e. (row.exactly k l).0 (eqb-true _ _ e), λ i. eq-eqb _ _ ((row.exactly k l).1 i)))))
+    ∙ ap (filter fresh) row)
     ∙ price-sum (is_visited visited) (range_with_len start (end - start))
 
 pub left_none : (places : List Triple) → remaining_of [] places ≡ places
@@ -110,9 +91,6 @@ visited_add places visited k are low new = record {
   once = IsDistinct-push nat_eq_equiv visited k are.once
       (false_from_ne_true _ (λ e. new ((visited_Decides visited k).0 e)));
 }
-
-pub all_below : (n : ℕ) → All (λ k. k < n) (range_with_len 0 n)
-all_below n = in_range (λ k. k < n) 0 n (λ k low high. omega arith)
 
 pub all_visited : (places : List Triple) → AreVisited places (range_with_len 0 (length places))
 all_visited places = let all : List ℕ = range_with_len 0 (length places) in record {
@@ -161,7 +139,7 @@ pub visits_left : {places : List Triple} {start now : Counts} {visited : List �
 visits_left {places} {visited = visited} has = omega (arith, left_counts places visited has.are, has.visits)
 
 -- Returns the bit of the place k (the index of a transition) in the bit set `words`.
-abbrev bit : List ℕ → ℕ → ℕ
+abbrev pub bit : List ℕ → ℕ → ℕ
 bit words k = bit_at (slice_index_or words (k / 64) 0) (k % 64)
 
 -- The bit set `words` assigns one bit to each place (index of a transition), and stores 64 bits in each word. If the
@@ -196,21 +174,12 @@ module _ (places words wide : List ℕ) (k word : ℕ) (have : HaveBits places w
         (grind (arith, other, have j, Contains-push_cases places k j, Contains-append_left places (k ∷ []) j))
   ]
 
--- The bit set `words` assigns one bit to each place (index of a transition). `IsClearing` holds if every bit that is 1
--- in `words` is the bit of a place that is at the index i or later in the list `places`. This is the case after each
--- word that contains the bit of one of the first i places in `places` was set to zero.
-abbrev pub IsClearing : List ℕ → List ℕ → ℕ → Type 0
-IsClearing places words i = (k : ℕ) → bit words k ≡ 1
-    → (j : ℕ) × (i ≤ j) × (j < length places) × (get_or places j 0 ≡ k)
-
-pub clears_more : (places words : List ℕ) (i place : ℕ) → IsClearing places words i → get_or places i 0 ≡ place →
-    place / 64 < length words → IsClearing places (slice_set words (place / 64) 0) (i + 1)
-clears_more places words i place now is room k one = elim (cases_eq (k / 64) (place / 64)) [
-  | inl row ↦ absurd (grind (arith, one, row, room, bit_at-zero, get_or-set_same))
-  | inr apart ↦
-      let same = ap (λ w. bit_at w (k % 64)) (get_or-set_other words (place / 64) (k / 64) 0 0 apart) in
-      let old = now k (sym same ∙ one) in let later : i + 1 ≤ old.0 = grind (arith, apart, is, old) in
-      (old.0, later, old.2, old.3)
+-- If a word of the bit set is set to zero, no bit becomes 1.
+pub sets_none : (words : List ℕ) (word k : ℕ) → word < length words → bit (slice_set words word 0) k ≡ 1 →
+    bit words k ≡ 1
+sets_none words word k room one = elim (cases_eq (k / 64) word) [
+  | inl same ↦ absurd (grind (arith, one, same, room, bit_at-zero, get_or-set_same))
+  | inr apart ↦ ap (λ w. bit_at w (k % 64)) (sym (get_or-set_other words word (k / 64) 0 0 apart)) ∙ one
 ]
 
 module _ (below : ℕ) (places words : List ℕ) (k : ℕ) (have : HaveBits places words) (high : below ≤ k) where
@@ -244,11 +213,3 @@ pub place_within : (places words : List ℕ) → HaveBits places words → (i d 
     get_or places i d / 64 < length words
 place_within places words have i d h =
     bit_within words (get_or places i d) ((have _).1 (Contains-get_or places i d h))
-
-pub clears_first : (places words : List ℕ) → HaveBits places words → IsClearing places words 0
-clears_first places words have k one = let c = (have k).0 one in
-    (c.0, omega arith, c.1, get_or_default places c.0 0 k c.1 ∙ c.2)
-
-pub cleared : (places words : List ℕ) (i : ℕ) → IsClearing places words i → length places ≤ i → HaveBits [] words
-cleared places words i now past k =
-    (λ one. let old = now k one in absurd (omega (arith, old.1, old.2)), λ c. absurd (omega (arith, c.1)))

@@ -19,19 +19,13 @@ pub loop-k-preserved : goal.loop-k-preserved
 loop-k-preserved g c =
     let l = c.args.part.now.l.now in
     let within : c.loop-k.k < length l.places = omega (arith, c.loop-k-test.true, c.row-start.ensures.within) in
-    let is = c.loop-k.invariant in
     let source = (c.row-start.ensures.exactly c.loop-k.k within).1 (c.loop-k.auto.k, c.loop-k-test.true) in
     let shift = c.args.part.now.shift in
     let e : Triple = (shift + c.loop-state.state, c.in_ok-number.number, shift + c.edge-label.result.1) in
-    let next = joins_next _ _ _ _ e c.text.result.now is.joined c.label_id.ensures.is_table
-    c.in_ok-number.ensures.table c.label_id.ensures.keeps c.in_ok-number.ensures.number _ _ shift l c.loop-k.k
-    (omega arith) within (c.invariants.ensures.in_range.each c.loop-k.k (0, 0, 0) within) (omega arith)
-    (cc (c.text.ensures.text, c.labels.ensures, c.edge-label.ensures.label)) (omega arith) is.added in
-    record {
-      joined = rw c.in_ok-push.ensures.items next.0;
-      added = rw c.in_ok-push.ensures.items next.1;
-      visits = grind (arith, is.visits, c.edge-label.ensures.visit);
-    }
+    rw c.in_ok-push.ensures.items (joins_next e c.text.result.now c.loop-k.invariant c.label_id.ensures.is_table
+    c.in_ok-number.ensures.table c.label_id.ensures.keeps c.in_ok-number.ensures.number _ c.invariants.ensures within
+    (omega arith) (cc (c.text.ensures.text, c.labels.ensures, c.edge-label.ensures.label)) (omega arith)
+    c.edge-label.ensures.visit)
 
 pub returns : goal.returns
 returns g c = let all = before-all c.args.part.now.l.now.states c.args.part.now.l.now.places
