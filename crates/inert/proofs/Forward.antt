@@ -118,11 +118,9 @@ module _ {u : Under} {signatures : List (List (ℕ × ℕ))} {w : Search} (walks
               let old = cut_back (λ x. x.height ≤ q → x.height ≤ r) up (λ x high le. absurd (omega (arith, high))) in
               laws.joined (system_of u.l) (slice_index u.blocks) _ _ _ on (walks.connects q r low lr old)
         ] in
-        let sound : AreSound u signatures Joined =
-        λ j lj. sound_still grow walks join_keeps j lj (omega arith) (λ p lp _. lp) in
         let accounted : AreHandled u signatures Joined = λ p k lp lk source.
         accounted_still grow walks join_keeps p k lp lk source (λ ahead. inl ahead) (λ t e. inr (inr e)) in
-        search (rules, walks, rooted, connects, sound, accounted)
+        search (rules, walks, rooted, connects, sound_still grow walks join_keeps, accounted)
 
   -- These lemmas assume that the search pushes the unvisited state t.
   module _ (laws : Laws) {t start end : ℕ} (within : t < length w.stages) (unseen : stage_at w.stages t ≡ Unvisited)
@@ -281,8 +279,6 @@ module _ {u : Under} {signatures : List (List (ℕ × ℕ))} {w : Search} (walks
             each = let frame = walks.frames.each i no_frame low in
                 All-set (IsFrame u.l w.stack) w.frames i x (rw is (grind (arith, frame, next, more))) walks.frames.each;
           } in
-          let sound : AreSound u signatures Moved =
-          λ j lj. sound_still grow walks next_keeps j lj (omega arith) (λ p lp _. lp) in
           let accounted : AreHandled u signatures Moved = λ p k lp lk source.
           accounted_still grow walks next_keeps p k lp lk source (next_ahead p k lp) (next_entered p) in
-          search (rules, walks, roots, frames, sound, accounted)
+          search (rules, walks, roots, frames, sound_still grow walks next_keeps, accounted)

@@ -7,13 +7,13 @@ use Rattle.std.proofs.Common.{◌≡◌, ℕ, ◌+◌, ◌-◌, ◌<◌, ◌≤�
 use Rattle.std.proofs.Common.{subst, inl, inr, arith, set, IsTrue, get_or-set_same, length-set, rules, get_or-set_other}
 use Rattle.std.proofs.lemmas.{List.length_push, List.get_or_append_left, List.set-append_left}
 use Rattle.theory.specs.{declared.relation.Relation.TheVariants.Branching, Blocks.Inert}
-use Rattle.lts.specs.Lts.{Triple, source_of, target_of, place_at, system_of, IsLts, IsRow}
+use Rattle.lts.specs.Lts.{Triple, source_of, target_of, place_at, system_of, IsLts}
 use Rattle.lts.specs.{Visited.price, Meter.Counts, Meter.Costs}
 use Rattle.lts.proofs.CallerLemmas.{place_step}
 use Rattle.inert.specs.Search.{Search, Laws, frame_at, top, IsFrame, IsFollowed, IsHandled, SearchInvariant, OnStack}
 use Rattle.inert.specs.Search.{Frame, Root, Item, Pair, Interned, unseen, nothing, stage_at, VisitState}
 use Rattle.inert.specs.SearchMoves.{with_pushed, with_item, HandlesStep, ahead, steps, GoesOn, Spends, LeadsOn}
-use Rattle.inert.specs.SearchMoves.{Finishes, Closes, IsAtRest, IsUnionOfItems}
+use Rattle.inert.specs.SearchMoves.{Finishes, Closes, IsUnionOfItems}
 use Rattle.inert.specs.declared.lens.Step.TheVariants.{Inert as Goes, Shows}
 use Rattle.inert.specs.Steps.{Under, IsInert, IsStep}
 use Rattle.inert.specs.{Search.Unvisited, Search.Completed, declared.lens.Step.Step, Signed.HasPair, Signed.pair_under}
@@ -199,20 +199,6 @@ collecting stages items = record (nothing stages) { items = items }
 -- read. These transitions are at the places k (indices in the list of all transitions) with `next` <= k < `end`.
 abbrev pub framed : ℕ → ℕ → ℕ → List VisitState → List Item → Search
 framed s next end stages items = with_pushed s next end 0 (collecting stages items)
-
--- A frame records which outgoing transitions of a state on the stack are still to be read. Suppose that no search is in
--- progress, and that the unvisited state s is then pushed with a frame for all of its outgoing transitions. Then the
--- invariant of the search still holds, and the number of visits (reads of transitions that the meter counts) that the
--- search still has to make has not changed (`GoesOn`).
-pub begins : {u : Under} {signatures : List (List (ℕ × ℕ))} {w : Search} {s start end : ℕ} → Laws
-    → IsAtRest u signatures w → s < u.l.states → stage_at w.stages s ≡ Unvisited → IsRow u.l.places s start end
-    → (counts : Counts)
-    → GoesOn u signatures signatures counts counts w (framed s start end w.stages w.items)
-begins {u} {signatures} {w} {s} {start} {end} laws rests inside none row counts =
-    let walks = subst (SearchInvariant u signatures) rests.empty rests.walks in
-    subst (λ old. GoesOn u signatures signatures counts counts old (framed s start end old.stages old.items))
-    (sym rests.empty)
-    (entered_on walks laws (within rests inside) none row (λ some. absurd (omega (arith, some))) counts)
 
 module _ (laws : Laws) {u : Under} (lts : IsLts u.l) {signatures : List (List (ℕ × ℕ))} {first second : Counts}
     {old w : Search} {s end k : ℕ} (low : s < length old.stages) (same : w ≡ collecting old.stages w.items)

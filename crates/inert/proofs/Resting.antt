@@ -3,7 +3,8 @@
 -- IDs. The first list contains the ID of the cached signature of each state. The second list contains the IDs that are
 -- used to split the blocks.
 use Rattle.std.proofs.Common.{rules, ◌≡◌, ◌⊎◌, ◌∙◌, ℕ, ◌<◌, ◌≤◌, List, length, slice_index, refl, sym, ap, arith}
-use Rattle.std.proofs.lemmas.List.{get_or_past, get_or-map, length-map, nil_from_length, get_or_default}
+use Rattle.std.proofs.Math.ListN.{get_or-map}
+use Rattle.std.proofs.lemmas.List.{get_or_past, length-map, nil_from_length, get_or_default}
 use Rattle.std.proofs.lemmas.{Bool.cases_lt, List.Sums.count_by-le-length, Grind.common_steps}
 use Rattle.lts.specs.Meter.{Counts}
 use Rattle.partition.specs.Blocks.{IsMember, InactiveHaveNone}
@@ -13,19 +14,10 @@ use Rattle.inert.specs.{Search.Completed, Search.VisitState, Steps.Under, Signed
 use Rattle.inert.specs.{Signed.IsIdIfChanged, SearchMoves.IsAtRest, SearchMoves.ReturnsToRest}
 use Rattle.inert.proofs.Invariant.{no_root, frames_some, root_low}
 
--- States are numbers. If the number s is at least the number of states, so that there is no state s, then the cached
--- signature ID for s is 0.
-pub kept_past : (stages : List VisitState) (s : ℕ) → length stages ≤ s → slice_index (cached stages) s ≡ 0
-kept_past stages s past = get_or_past (cached stages) s 0 (omega (arith, past, length-map stages id_of))
-
 -- The status of a completed state contains a signature ID. The cached signature ID of a state is the ID that its status
--- contains, or 0 if the state is not completed.
-pub kept_is : (stages : List VisitState) (s : ℕ) → slice_index (cached stages) s ≡ id_of (stage_at stages s)
-kept_is stages s = search (rules, get_or-map, kept_past, get_or_past)
-
-pub cached_at : (stages : List VisitState) (s k : ℕ) → stage_at stages s ≡ Completed k
-    → slice_index (cached stages) s ≡ k
-cached_at stages s k is = kept_is stages s ∙ ap id_of is
+-- contains, or 0 if the state is not completed. If the number s is at least the number of states, this ID is 0.
+pub cached_at : (stages : List VisitState) (s : ℕ) → slice_index (cached stages) s ≡ id_of (stage_at stages s)
+cached_at stages s = get_or-map id_of stages s Unvisited
 
 -- These lemmas make two assumptions. First, all states were completed. Second, the active states, which are the states
 -- that the round processes, were then marked as unvisited.
@@ -55,7 +47,7 @@ module _ {active : List ℕ} {old w : Search} (woken : AreMarkedUnvisited old.st
       let signed : AreCacheable u signatures w.stages = λ s k is.
       let inside : s < length old.stages = grind (arith, get_or_past w.stages s Unvisited, is, woken.size) in
       let id : slice_index (cached old.stages) s ≡ k =
-      grind (arith, woken.others s, unvisited s, is, cached_at old.stages s k) in
+      grind (arith, woken.others s, unvisited s, is, cached_at old.stages s) in
       record {
         within = let within = had.each s 0 in grind (arith, id, within, inside, length-map old.stages id_of);
         signature = λ t low block.
@@ -128,7 +120,7 @@ module _ {u : Under} {before signatures : List (List (ℕ × ℕ))} {active : Li
       IsIdIfChanged (slice_index put s) (id_of (stage_at done.stages s)) (slice_index signature_ids s)) where
     all_shown : (s : ℕ) → IsMember active s →
         IsIdIfChanged (slice_index (cached first.stages) s) (slice_index now s) (slice_index signature_ids s)
-    all_shown s one = grind (arith, common_steps, kept_is, first.stages, done.stages)
+    all_shown s one = grind (arith, common_steps, cached_at, first.stages, done.stages)
 
     -- The active states are the states that the round processes. After the search, the cached signature ID of each
     -- active state is the ID of its signature, and the cached signature ID of every other state has not changed
@@ -141,7 +133,7 @@ module _ {u : Under} {before signatures : List (List (ℕ × ℕ))} {active : Li
           grind (arith, over_again.all s, size, cached_at done.stages s, is, back.on.walks.signed s);
       signed = λ s one. grind (arith, its s one, cached_at done.stages s, back.on.signs s, unvisited woke over s one);
       still = λ s. let inside = cases_lt s (length first.stages) in let size = back.on.walks.sizes.size in
-          grind (arith, inside, woke.others s, over.all s, cached_at, back.on.seen, kept_past, states, size);
+          grind (arith, inside, woke.others s, over.all s, cached_at, back.on.seen, get_or_past, states, size);
       ids = λ s d h. let is = get_or_default signature_ids s 0 d h in let walks = back.on.walks in
           grind (arith, is, none s h, all_shown s, its s, walks.signed s, cached_at done.stages s, walks.sizes);
       changed = all_shown;

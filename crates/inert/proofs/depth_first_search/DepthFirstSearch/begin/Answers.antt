@@ -1,17 +1,22 @@
-use Rattle.std.proofs.Common.{rules, ◌∙◌, set, ap, sym, arith}
+use Rattle.std.proofs.Common.{rules, ◌∙◌, set, ap, sym, subst, arith}
 use Rattle.std.proofs.lemmas.{Bool.false≢true, Grind.common_steps}
 use Rattle.lts.proofs.CallerLemmas.{price_first}
 use Rattle.lts.specs.Meter.{Costs}
-use Rattle.inert.specs.{Search.Search, Search.Completed, SearchMoves.ahead}
-use Rattle.inert.proofs.{Reading.begins, Reading.takes_framed, Reading.takes_bare, Reading.begun_ends, Resting.within}
+use Rattle.inert.specs.{Search.Search, Search.SearchInvariant, Search.Completed, SearchMoves.ahead}
+use Rattle.inert.proofs.Forward.{entered_on}
+use Rattle.inert.proofs.{Reading.takes_framed, Reading.takes_bare, Reading.begun_ends, Resting.within}
 use Rattle.inert.proofs.depth_first_search.DepthFirstSearch.begin.Goals.{After-step-step}
 use Rattle.inert.proofs.depth_first_search.DepthFirstSearch.begin.Given.{Over}
 use Rattle.inert.proofs.depth_first_search.DepthFirstSearch.begin.Goals as goal
 
+-- Suppose that no search is in progress, and that the unvisited state s is then pushed with a frame for all of its
+-- outgoing transitions. Then the search has gone on (`GoesOn`).
 pub loop-k-init : goal.loop-k-init
-loop-k-init g c = let rests = c.requires.rests in
-    let begun = begins c.invariants.ensures.laws rests c.requires.state.0 c.requires.state.1 c.row-start.ensures in
-    grind (arith, common_steps, rests.empty, begun (g.M.Meter.counted c.args.m.now))
+loop-k-init g c = let rests = c.requires.rests in let w = c.args.self.now in
+    let on = entered_on (subst (SearchInvariant c.args.lens.now c.args.signatures.now) rests.empty rests.walks)
+    c.invariants.ensures.laws (within rests c.requires.state.0) c.requires.state.1 c.row-start.ensures
+    (λ some. absurd (omega (arith, some))) (g.M.Meter.counted c.args.m.now) in
+    grind (arith, common_steps, rests.empty, on)
 
 pub step-step-requires-clause-room : goal.step-step-requires-clause-room
 step-step-requires-clause-room g c = let i = c.loop-k.invariant in
