@@ -12,6 +12,8 @@ use Rattle.std.proofs.KnownBytes.{Consumes-trans}
 use Rattle.autfmt.specs.{Texts.lines_of, Texts.Lines, Texts.IsOneLine, Cutter.Cutting, Cutter.HasCut, Cutter.CutsLine}
 use Rattle.autfmt.specs.{Cutter.BeginsTooLong, Cutter.IsPart, declared.line.TheConstants.LONGEST_LINE}
 use Rattle.autfmt.specs.{declared.cutter.Found.TheVariants.Feed, Gathering.FoundIn, declared.cutter.TheConstants.CHUNK}
+use Rattle.autfmt.specs.{declared.cutter.Step.Step, Gathering.Makes}
+use Rattle.autfmt.specs.declared.cutter.Step.TheVariants.{Line, TooLong, End}
 
 -- If a byte that is not a line feed is put in front of a text, then this byte is put in front of the first line of the
 -- text. If the text is empty, the result is one line, which consists of this byte.
@@ -142,6 +144,21 @@ HasCut-end given got lines old cut none =
     cut got (λ over. none_behind old.ahead got none) ∙ ap (λ (bytes : List ℕ). lines ++ lines_of bytes) none
     ∙ append-nil lines
 
+-- `Follows step now P` holds if each list of lines that may follow has the property P. The argument `step` is the result
+-- of splitting off the next line, and `now` is the state of the line splitter after this. If the result is `Line`, the
+-- first line that follows is `now.line`. If the result is `TooLong`, the first line that follows is any line that is too
+-- long. If the result is `End`, no line follows.
+abbrev pub Follows : Step → Cutting → (List (List ℕ) → Type 0) → Type 0
+Follows Line now P = (others : List (List ℕ)) → P (now.line ∷ others)
+Follows TooLong now P = (line : List ℕ) (others : List (List ℕ)) → LONGEST_LINE < length line → P (line ∷ others)
+Follows End now P = P []
+
+-- `LeadsTo given lines over P` holds if every input that begins with the bytes `given` consists of the lines `lines`,
+-- followed by lines with the property P. If the input has ended (`over`), this must hold only for the input `given`.
+abbrev pub LeadsTo : List ℕ → List (List ℕ) → Bool → (List (List ℕ) → Type 0) → Type 0
+LeadsTo given lines over P = (more : List ℕ) → (over ≡ true → more ≡ []) →
+    (others : List (List ℕ)) × Lines (given ++ more) (lines ++ others) × P others
+
 -- Assume that the line splitter in the state `old` has divided the bytes `given` into the lines `lines`, and that the
 -- bytes `got` of the input are read next.
 module _ (given got : List ℕ) (lines : List (List ℕ)) (old : Cutting) (cut : HasCut given lines old) where
@@ -176,24 +193,30 @@ module _ (given got : List ℕ) (lines : List (List ℕ)) (old : Cutting) (cut :
         ∙ sym (append_assoc lines (now.line ∷ []) (lines_of (now.ahead ++ more)))
   ]
 
-  -- Suppose that the next line is too long. Then, whatever bytes `more` follow, the whole input begins with the lines
-  -- that the line splitter has returned, and the line after these lines is too long.
-  pub HasCut-too_long : (more : List ℕ) → (old.over ≡ false) × BeginsTooLong (old.ahead ++ got) →
-      (line : List ℕ) × (others : List (List ℕ)) × (LONGEST_LINE < length line) × Lines (given ++ got ++ more)
-      (lines ++ line ∷ others)
-  HasCut-too_long more (open_at, (front, tail, one, big, b)) =
-      let (end, others, l) = first_begins front (tail ++ more) one (omega arith) in
-      let size = length-append front end in
-      (front ++ end, others, omega arith, HasCut-part open_at more ∙ rw (b, append_assoc, l) refl)
+  -- Suppose that the line splitter has divided the bytes `given` into the lines `lines`, and reads the bytes `got` to
+  -- split off the next line. If each list of lines that may follow has the property P (`Follows`), then the lines
+  -- `lines` are followed by lines with the property P.
+  pub after : (step : Step) (now : Cutting) (P : List (List ℕ) → Type 0) → Makes old.over (old.ahead ++ got) step now →
+      Follows step now P → LeadsTo (given ++ got) lines now.over P
+  after Line now P made follows more end =
+      let rest = lines_of (now.ahead ++ more) in
+      (now.line ∷ rest, HasCut-line now made more end ∙ append_assoc lines (now.line ∷ []) rest, follows rest)
+  after TooLong now P (open_at, (front, tail, one, big, b)) follows more end =
+      let (last, others, l) = first_begins front (tail ++ more) one (omega arith) in
+      let long : LONGEST_LINE < length (front ++ last) = omega (arith, length-append front last) in
+      ((front ++ last) ∷ others, HasCut-part open_at more ∙ rw (b, append_assoc, l) refl, follows _ others long)
+  after End now P made follows more end =
+      let l = HasCut-end given got lines old cut made.none in
+      ([], rw (end made.over, append-nil, append-nil lines) l, follows)
 
-  -- If there are bytes after the lines that the line splitter has returned, then the whole input has another line after
-  -- these lines.
-  pub HasCut-more : (more : List ℕ) → (old.over ≡ false) × (1 ≤ length (old.ahead ++ got)) →
-      (line : List ℕ) × (others : List (List ℕ)) × Lines (given ++ got ++ more) (lines ++ line ∷ others)
-  HasCut-more more (open_at, some) =
+  -- Suppose that bytes remain after the lines that the line splitter has returned, and that each list of at least one
+  -- line has the property P. Then the lines that were returned are followed by lines with the property P.
+  pub more_lines : (over : Bool) (P : List (List ℕ) → Type 0) → (old.over ≡ false) × (1 ≤ length (old.ahead ++ got)) →
+      ((line : List ℕ) (others : List (List ℕ)) → P (line ∷ others)) → LeadsTo (given ++ got) lines over P
+  more_lines over P (open_at, some) each more end =
       let (line, others, l) =
       some_line (old.ahead ++ got ++ more) (omega (arith, length-append (old.ahead ++ got) more)) in
-      (line, others, HasCut-part open_at more ∙ ap (λ (ls : List (List ℕ)). lines ++ ls) l)
+      (line ∷ others, HasCut-part open_at more ∙ ap (λ (ls : List (List ℕ)). lines ++ ls) l, each line others)
 
 -- ---- Chunks of bytes
 

@@ -1,22 +1,22 @@
 -- The lemmas in this file are about the steps in which a hide list (the labels to hide, one on each line) is read. The
 -- lemmas describe the state of the reader after each step, and justify each error that the reader returns.
-use Rattle.std.proofs.Common.{◌≡◌, ◌⊎◌, ◌↔◌, ⊎_elim, ℕ, ◌+◌, ◌<◌, ◌≤◌, true, false, List, [], ◌∷◌, ◌++◌, length, Option}
-use Rattle.std.proofs.Common.{Some, Contains, refl, sym, ◌∙◌, inl, inr, arith, append_assoc}
+use Rattle.std.proofs.Common.{◌≡◌, ◌⊎◌, ◌↔◌, ⊎_elim, ℕ, ◌<◌, ◌≤◌, Bool, true, false, List, [], ◌∷◌, ◌++◌, length, Option}
+use Rattle.std.proofs.Common.{◌+◌, Contains, refl, sym, inl, inr, arith}
 use Rattle.std.proofs.lemmas.Slice.Zip.{AllZip-long, all_zipped_more}
 use Rattle.std.proofs.lemmas.List.Elements.{All-nil, Contains-append_left, Contains-push, Contains-push_cases}
 use Rattle.std.specs.Io.KnownBytes.{IsAtEnd}
 use Rattle.lts.specs.Labels.{Interns}
-use Rattle.autfmt.specs.{declared.fault.Fault.Fault, Texts.lines_of, Texts.Lines, Faults.LineFault, HideLists.Hides}
-use Rattle.autfmt.specs.{HideLists.HideFault, HideLists.FirstHideFault, Cutter.Cutting, Cutter.CutsLine}
-use Rattle.autfmt.specs.{Cutter.BeginsTooLong, Cutter.IsPart, HideReadSoFar.HideReadSoFar, HideOutcomes.HideRefuses}
-use Rattle.autfmt.specs.declared.fault.Fault.TheVariants.{LineTooLong, TooManyHidden, Device}
+use Rattle.autfmt.specs.{declared.fault.Fault.Fault, HideLists.Hides, HideLists.FirstHideFault}
+use Rattle.autfmt.specs.{Faults.LineFault}
+use Rattle.autfmt.specs.{Cutter.Cutting, Cutter.CutsLine, Cutter.IsPart, HideReadSoFar.HideReadSoFar}
+use Rattle.autfmt.specs.declared.fault.Fault.TheVariants.{Device}
 use Rattle.autfmt.specs.HideReaders.{IsHideFault, SameLabels, HidesAs}
-use Rattle.autfmt.specs.HideOutcomes.HideRefuses.{failed_source, faulty_text}
-use Rattle.autfmt.specs.declared.limits.TheConstants.{MOST_LINES}
+use Rattle.autfmt.specs.{HideOutcomes.HideRefuses, HideOutcomes.HideRefuses.failed_source}
+use Rattle.autfmt.specs.{HideOutcomes.HideRefuses.faulty_text, declared.limits.TheConstants.MOST_LINES}
 use Rattle.autfmt.proofs.{FirstFaults.First, FirstFaults.FaultFrom-behind, FirstFaults.FaultFrom-not_known}
 use Rattle.autfmt.proofs.{FaultLaws.hides_are_judged, FaultLaws.Steps-hides}
-use Rattle.autfmt.proofs.Cutting.{HasCut-line, HasCut-too_long, HasCut-end, HasCut-more, HasCut-part}
-use Rattle.autfmt.proofs.ReaderSteps.{if_told, none_to_come, fresh}
+use Rattle.autfmt.proofs.Cutting.{HasCut-line, HasCut-end, HasCut-part, LeadsTo}
+use Rattle.autfmt.proofs.ReaderSteps.{if_revealed}
 
 -- If the label a is appended to the list H, then the result contains exactly the labels of H and the label a.
 pushed : (H : List (List ℕ)) (a b : List ℕ) → Contains (H ++ a ∷ []) b ↔ (Contains H b ⊎ (b ≡ a))
@@ -39,12 +39,6 @@ SameLabels-add hidden H a now same (inr (unknown, is)) b =
       λ c. p.1 (⊎_elim (λ d. inl (s.0 d)) (λ e. inr e) (h.0 c)),
       λ c. h.1 (⊎_elim (λ d. inl (s.1 d)) (λ e. inr e) (p.0 c)),
     )
-
--- Before the reader has read any bytes of the hide list (a file with one label to hide on each line), it has read no
--- labels.
-pub HideReadSoFar-new : (old : Cutting) (hidden : List (List ℕ)) → old ≡ fresh → hidden ≡ [] →
-    HideReadSoFar [] old [] hidden
-HideReadSoFar-new old hidden e none = grind arith
 
 -- Assume that the reader has read some lines, and then reads the bytes `got` from its source (the object from which the
 -- hide list is read).
@@ -96,51 +90,14 @@ module _ {given : List ℕ} {old : Cutting} {H hidden : List (List ℕ)} (got : 
     same = SameLabels-add hidden H a hidden' so_far.same added;
   }
 
-  -- Assume that the source (the object from which the hide list is read) has not failed. If the contract of the source
-  -- states which bytes the source contains, each error that the reader returns must then be the first error of the
-  -- whole hide list.
-  module _ (found : ℕ) (rest : Option (List ℕ)) (failures : ℕ) (count : length H ≡ found) (sound : failures ≡ 0) where
-    refused_behind : (fault : Fault) → IsHideFault fault → found ≤ MOST_LINES →
-        ((more : List ℕ) → rest ≡ Some more → (line : List ℕ) × (others : List (List ℕ))
-        × Lines (given ++ got ++ more) (so_far.lines ++ line ∷ others)
-        × First hides_are_judged found (line ∷ others) fault) →
-        HideRefuses (given ++ got) rest failures fault
-    refused_behind fault kind few next =
-        faulty_text sound kind
-        (if_told rest (λ more. FirstHideFault (given ++ got ++ more) fault)
-        (λ more told.
-        let (line, others, l, bad) = next more told in
-        let steps = Steps-hides so_far.lines H found so_far.named (sym count) few in
-        record {
-          first = rw l ((FaultFrom-behind hides_are_judged 0 found so_far.lines (line ∷ others) fault steps).1 bad);
-        }))
-
-    -- If the next line of the hide list (a file with one label to hide on each line) is too long, then the reader may
-    -- return `LineTooLong` with the number of this line.
-    pub hide_too_long : found < MOST_LINES → (old.over ≡ false) × BeginsTooLong (old.ahead ++ got) →
-        HideRefuses (given ++ got) rest failures (LineTooLong (found + 1))
-    hide_too_long few long =
-        refused_behind (LineTooLong (found + 1)) tt (omega arith) (λ more told.
-        let (line, others, big, l) = HasCut-too_long given got so_far.lines old so_far.cut more long in
-        (line, others, l, inl (inl (few, LineFault.too_long refl big))))
-
-    -- If the hide list (a file with one label to hide on each line) has a line after the last line that is allowed,
-    -- then the reader may return `TooManyHidden`.
-    pub hide_behind : found ≡ MOST_LINES → (old.over ≡ false) × (1 ≤ length (old.ahead ++ got)) →
-        HideRefuses (given ++ got) rest failures TooManyHidden
-    hide_behind all some =
-        refused_behind TooManyHidden tt (omega arith) (λ more told.
-        let (line, others, l) = HasCut-more given got so_far.lines old so_far.cut more some in
-        (line, others, l, inl (inr (omega arith, refl))))
-
-    -- If the next line of the hide list (a file with one label to hide on each line) has an error, then the reader may
-    -- return this error.
-    pub hide_faulty : (now : Cutting) (fault : Fault) → found < MOST_LINES → (now.over ≡ true → IsAtEnd rest) →
-        (old.over ≡ false) × CutsLine (old.ahead ++ got) now → HideFault (found + 1) now.line fault →
-        IsHideFault fault → HideRefuses (given ++ got) rest failures fault
-    hide_faulty now fault few end cuts bad kind =
-        refused_behind fault kind (omega arith) (λ more told.
-        let s = HasCut-line given got so_far.lines old so_far.cut now cuts in
-        let l = s more (λ over. none_to_come rest more told (end over)) in
-        let others = lines_of (now.ahead ++ more) in
-        (now.line, others, l ∙ append_assoc so_far.lines (now.line ∷ []) others, inl (inl (few, bad))))
+  -- Suppose that the lines that follow have a first error, and that the reader returns this error. Then this error is
+  -- the first error of the hide list.
+  pub hide_refused : {found : ℕ} {over : Bool} {rest : Option (List ℕ)} {failures : ℕ} (fault : Fault) →
+      length H ≡ found → found ≤ MOST_LINES → failures ≡ 0 → (over ≡ true → IsAtEnd rest) → IsHideFault fault →
+      LeadsTo (given ++ got) so_far.lines over (λ lines. First hides_are_judged found lines fault) →
+      HideRefuses (given ++ got) rest failures fault
+  hide_refused {found = found} {rest = rest} fault count few sound end kind leads =
+      faulty_text sound kind (if_revealed (λ text. FirstHideFault text fault) (given ++ got) rest end (λ more end.
+      let (others, l, bad) = leads more end in
+      let steps = Steps-hides so_far.lines H found so_far.named (sym count) few in
+      record { first = rw l ((FaultFrom-behind hides_are_judged 0 found so_far.lines others fault steps).1 bad) }))

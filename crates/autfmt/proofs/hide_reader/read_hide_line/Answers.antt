@@ -1,25 +1,31 @@
-use Rattle.std.proofs.Common.{inl, arith}
-use Rattle.std.proofs.lemmas.{List.length_push, Result.err_from_is_err_and}
-use Rattle.autfmt.proofs.HideSteps.{hide_too_long, hide_ends, hide_failed, hide_good, hide_faulty}
+use Rattle.std.proofs.Common.{inl, refl, arith}
+use Rattle.std.proofs.lemmas.List.{length_push}
+use Rattle.autfmt.specs.{Faults.LineFault.too_long}
+use Rattle.autfmt.specs.declared.cutter.Step.TheVariants.{Line, TooLong}
+use Rattle.autfmt.proofs.{Cutting.after, ReaderSteps.returns_error}
+use Rattle.autfmt.proofs.HideSteps.{hide_ends, hide_failed, hide_good, hide_refused}
 use Rattle.autfmt.proofs.hide_reader.read_hide_line.Goals as goal
 
 pub returns-in_err-advance-clause-line : goal.returns-in_err-advance-clause-line
 returns-in_err-advance-clause-line g c =
     let s = c.in_err-advance.ensures.step in
-    let exit = err_from_is_err_and c.from_residual.result c.from_residual.ensures.1 in
-    let failed = c.in_err-advance.ensures.failures in
     let few = c.requires.more in (
       s.0,
       s.1,
-      λ given H so_far count. rw (exit.1, exit.2) (hide_failed s.0 so_far _ _ (omega arith) (inl (omega arith)) failed
-          s.2),
+      λ given H so_far count. returns_error _ _ _ c.from_residual.ensures.1
+          (hide_failed s.0 so_far _ _ (omega arith) (inl (omega arith)) c.in_err-advance.ensures.failures s.2),
     )
 
 pub returns-in-TooLong-clause-line : goal.returns-in-TooLong-clause-line
 returns-in-TooLong-clause-line g c =
     let s = rw c.in-TooLong.is at c.in_ok-advance.ensures.step in
-    let sound = c.in_ok-advance.ensures.failures in
-    (s.0, s.1, λ given H so_far count. hide_too_long s.0 so_far _ _ _ count sound c.requires.more s.2)
+    let few = c.requires.more in
+    let end = c.advance.ensures.end c.requires.source.end in (
+      s.0,
+      s.1,
+      λ given H so_far count. hide_refused s.0 so_far _ count (omega arith) c.in_ok-advance.ensures.failures end tt
+          (after given s.0 so_far.lines c.args.cutter.now so_far.cut TooLong c.advance.new.self _ s.2 (λ line others big. inl (inl (few, too_long refl big)))),
+    )
 
 pub returns-in-End-clause-line : goal.returns-in-End-clause-line
 returns-in-End-clause-line g c =
@@ -30,26 +36,23 @@ returns-in-End-clause-line g c =
 pub returns-in_err-label-clause-line : goal.returns-in_err-label-clause-line
 returns-in_err-label-clause-line g c =
     let s = rw c.in-Line.is at c.in_ok-advance.ensures.step in
-    let exit = err_from_is_err_and c.from_residual-in_err-label.result c.from_residual-in_err-label.ensures.1 in (
+    let few = c.requires.more in
+    let end = c.advance.ensures.end c.requires.source.end in
+    let bad = rw c.line.ensures at c.in_err-label.ensures.fault in (
       s.0,
       s.1,
-      λ given H so_far count. rw (exit.1, exit.2)
-          (hide_faulty s.0 so_far _ _ _ count c.in_ok-advance.ensures.failures _ _ c.requires.more
-          (c.advance.ensures.end c.requires.source.end) s.2 (rw c.line.ensures at c.in_err-label.ensures.fault)
-          c.in_err-label.ensures.kind),
+      λ given H so_far count. returns_error _ _ _ c.from_residual-in_err-label.ensures.1
+          (hide_refused s.0 so_far _ count (omega arith) c.in_ok-advance.ensures.failures end
+          c.in_err-label.ensures.kind (after given s.0 so_far.lines c.args.cutter.now so_far.cut Line c.advance.new.self _ s.2 (λ others. inl (inl (few, bad))))),
     )
 
 pub returns-clause-line : goal.returns-clause-line
 returns-clause-line g c =
     let s = rw c.in-Line.is at c.in_ok-advance.ensures.step in
-    let a = c.in_ok-label.label.now in
     let good = rw c.line.ensures at c.in_ok-label.ensures.good in (
       s.0,
       s.1,
-      λ given H so_far count. (
-        a,
-        hide_good s.0 so_far _ a _ s.2 good c.in_ok-add.ensures.added,
-      ),
+      λ given H so_far count. (_, hide_good s.0 so_far _ c.in_ok-label.label.now _ s.2 good c.in_ok-add.ensures.added),
     )
 
 pub returns-clause-few : goal.returns-clause-few

@@ -1,7 +1,8 @@
-use Rattle.std.proofs.Common.{rules, [], ◌++◌, length, ap, arith, append_assoc, append-nil}
-use Rattle.std.proofs.lemmas.{Bool.both_ways, Result.err_from_is_err_and}
+use Rattle.std.proofs.Common.{rules, [], ◌∷◌, ◌++◌, length, ap, arith, append_assoc, append-nil}
+use Rattle.std.proofs.lemmas.Bool.{both_ways}
 use Rattle.std.proofs.KnownBytes.{Consumes-nil, Consumes-trans}
-use Rattle.autfmt.proofs.{Holding.Holds-new, ReaderSteps.no_memory_behind, ReaderSteps.HeldSoFar-push}
+use Rattle.autfmt.proofs.{Holding.Holds-new, ReaderSteps.no_memory_behind, ReaderSteps.returns_error}
+use Rattle.autfmt.proofs.ReaderSteps.{HeldSoFar-push}
 use Rattle.autfmt.proofs.reader.read_transitions.Goals as goal
 
 pub loop-found-init : goal.loop-found-init
@@ -26,29 +27,24 @@ pub returns-in_err-read_transition-clause-transitions : goal.returns-in_err-read
 returns-in_err-read_transition-clause-transitions g c =
     let (before, taken, so_far) = c.loop-found.invariant.got in
     let same = c.in_ok-read_usual.ensures.none (both_ways _ c.if-branch.false) in
-    let (line, took, step) = rw (same.0, same.1) at c.in_err-read_transition.ensures.transition in
-    let p = err_from_is_err_and c.from_residual-in_err-read_transition.result
-    c.from_residual-in_err-read_transition.ensures.1 in (
+    let (line, took, step) = rw (same.0, same.1) at c.in_err-read_transition.ensures.transition in (
       before ++ line,
       Consumes-trans _ _ _ before line taken took,
       λ bounds given standing.
-          let now = so_far bounds given standing in
-          let refused = step bounds (given ++ before) now.0 now.1 in
-          rw (p.1, p.2, ← append_assoc given before line) refused,
+          let (es, now) = so_far bounds given standing in
+          returns_error _ _ _ c.from_residual-in_err-read_transition.ensures.1
+          (rw (← append_assoc given before line) (step bounds (given ++ before) es now)),
     )
 
 pub returns-in_err-read_usual-clause-transitions : goal.returns-in_err-read_usual-clause-transitions
 returns-in_err-read_usual-clause-transitions g c =
     let (before, taken, so_far) = c.loop-found.invariant.got in
-    let p = err_from_is_err_and c.from_residual.result c.from_residual.ensures.1 in (
+    let source = c.loop-found.invariant.source in (
       before,
       taken,
       λ bounds given standing.
           let now = (so_far bounds given standing).1.0 in
-          rw (p.1, p.2)
-          (no_memory_behind bounds (given ++ before) now.header now.lines c.loop-found.cutter _ _ _ _ _ now.cut now.good
-          c.loop-found.invariant.source.sound
-          c.loop-found.invariant.source.end),
+          returns_error _ _ _ c.from_residual.ensures.1 (no_memory_behind now.lines c.loop-found.cutter now.cut now.good source.sound source.end),
     )
 
 pub loop-found-preserved : goal.loop-found-preserved
@@ -68,9 +64,15 @@ pub loop-found-preserved-then-branch : goal.loop-found-preserved-then-branch
 loop-found-preserved-then-branch g c =
     let (before, taken, so_far) = c.loop-found.invariant.got in
     let yes = c.if-branch.true in
-    let next = HeldSoFar-push _ _ _ _ _ _ _ before [] so_far (c.in_ok-read_usual.ensures.taken yes) in
     record {
-      got = (before ++ [], Consumes-trans _ _ _ before [] taken (Consumes-nil _), next);
+      got = (
+        before,
+        taken,
+        λ bounds given standing.
+            let (es, now) = so_far bounds given standing in
+            let (e, next) = c.in_ok-read_usual.ensures.taken yes bounds (given ++ before) es now in
+            (es ++ e ∷ [], rw append-nil at next),
+      );
       len = let e = c.in_ok-read_usual.ensures.len yes in let i = c.loop-found.invariant.len in omega arith;
       few = c.in_ok-read_usual.ensures.few;
       source = search rules;
