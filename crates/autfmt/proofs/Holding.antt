@@ -19,10 +19,12 @@ use Rattle.autfmt.specs.{declared.held.Held.Held, Held.AddsTriple, Held.AreShown
 found_Decides : (H : List (List ℕ)) (a : List ℕ) → Decides (list_any (bytes_eq a) H) (Contains H a)
 found_Decides = is_member-Decides bytes_eq-Decides
 
--- If a hide list (a list of the labels to hide) contains a label, then hiding changes this label into the internal
+-- If a label has an ID in a hide list (a list of the labels to hide), then hiding changes this label into the internal
 -- label.
-pub hidden_label-hidden : (H : List (List ℕ)) (a : List ℕ) → Contains H a → hidden_label H a ≡ internal
-hidden_label-hidden H a c = cond-true (list_any (bytes_eq a) H) internal a ((found_Decides H a).1 c)
+pub hidden_label-hidden : (H : List (List ℕ)) (k : ℕ) (a : List ℕ) → IsLabelId H k a → hidden_label H a ≡ internal
+hidden_label-hidden H k a n =
+    let contained = rw n.text at (Contains-get_or H k [] n.below) in
+    cond-true (list_any (bytes_eq a) H) internal a ((found_Decides H a).1 contained)
 
 -- If a hide list (a list of the labels to hide) does not contain a label, then hiding does not change this label.
 pub hidden_label-shown : (H : List (List ℕ)) (a : List ℕ) → ¬ Contains H a → hidden_label H a ≡ a
@@ -53,54 +55,45 @@ Hide-same H K A same = λ i. record {
       A.transitions;
 }
 
--- If a label has an ID in a label table, then the table contains this label.
-pub contains_numbered : (labels : List (List ℕ)) (k : ℕ) (a : List ℕ) → IsLabelId labels k a → Contains labels a
-contains_numbered labels k a n = rw (← n.text) (Contains-get_or labels k [] n.below)
-
 -- If the hide list (the list of the labels to hide) is empty, then hiding does not change a system.
 pub Hide-none : (A : System) → Hide [] A ≡ A
 Hide-none A = λ i. record { first = A.first; states = A.states; transitions = map-id A.transitions i }
 
 -- ---- Stored triples
 
--- Suppose that each label of the label table occurs in some stored triple, and that one triple is added. Then each
--- label of the new label table occurs in some stored triple.
-carried_more : (old now : Held) (s : ℕ) (a : List ℕ) (t : ℕ) → (added : AddsTriple old now s a t) →
-    ((k : ℕ) → k < length old.labels → (x : Triple) × Contains old.transitions x × (label_of x ≡ k)) →
-    (k : ℕ) → k < length now.labels → (x : Triple) × Contains now.transitions x × (label_of x ≡ k)
-carried_more old now s a t added before k below =
-    let triple : Triple = (s, added.number, t) in
-    rw added.items (elim (added.known k below) [
-      | inl known ↦ let (x, among, number) = before k known in
-          (x, Contains-append_left old.transitions (triple ∷ []) x among, number)
-      | inr new ↦ (triple, Contains-push old.transitions triple, sym new)
-    ])
+-- Suppose that the stored triples denote the transitions es, and that a triple for the transition e is added.
+module _ {H : List (List ℕ)} {n : ℕ} {old now : Held} (es : List Transition) (e : Transition) (held : Holds H n old es)
+    (among : IsAmong n e) (added : AddsTriple old now e.source (hidden_label H e.label) e.target) where
+  abbrev triple : Triple
+  triple = (e.source, added.number, e.target)
 
--- Suppose that hiding changes no label of the label table, and that one triple is added, whose label results from
--- hiding. Then hiding changes no label of the new label table.
-shown_more : (H : List (List ℕ)) (old now : Held) (s : ℕ) (a : List ℕ) (t : ℕ) → AreShown H old.labels →
-    AddsTriple old now s (hidden_label H a) t → AreShown H now.labels
-shown_more H old now s a t shown added k below = elim (added.known k below) [
-  | inl known ↦ rw (added.keeps.texts k known) (shown k known)
-  | inr new ↦ rw (new, added.numbered.text) (hidden_label-again H a)
-]
+  -- Each label of the new label table occurs in some stored triple.
+  carried_more : (k : ℕ) → k < length now.labels → (x : Triple) × Contains now.transitions x × (label_of x ≡ k)
+  carried_more k below =
+      rw added.items (elim (added.known k below) [
+        | inl known ↦ let (x, stored, number) = held.carried k known in
+            (x, Contains-append_left old.transitions (triple ∷ []) x stored, number)
+        | inr new ↦ (triple, Contains-push old.transitions triple, sym new)
+      ])
 
--- Suppose that the stored triples denote the transitions es, and that a triple for the transition e is added. Then the
--- stored triples denote the transitions es followed by e.
-pub Holds-add : (H : List (List ℕ)) (n : ℕ) (old now : Held) (es : List Transition) (e : Transition) →
-    Holds H n old es → IsAmong n e → AddsTriple old now e.source (hidden_label H e.label) e.target →
-    Holds H n now (es ++ e ∷ [])
-Holds-add H n old now es e held among added =
-    let triple : Triple = (e.source, added.number, e.target) in
-    let still = transitions-kept old.labels now.labels n old.transitions added.keeps held.among in
-    let all : All (IsTriple (length now.labels) n) old.transitions = grind (arith, held.among, added.keeps.longer) in
-    record {
-      hidden = grind (arith, map_push, now.labels, old.transitions, held.hidden, added.numbered.text);
-      among = rw added.items (All-push (IsTriple (length now.labels) n) old.transitions triple all
-          (record { source = among.source; label = added.numbered.below; target = among.target }));
-      carried = carried_more old now e.source (hidden_label H e.label) e.target added held.carried;
-      shown = shown_more H old now e.source e.label e.target held.shown added;
-    }
+  shown_more : AreShown H now.labels
+  shown_more k below = elim (added.known k below) [
+    | inl known ↦ rw (added.keeps.texts k known) (held.shown k known)
+    | inr new ↦ rw (new, added.numbered.text) (hidden_label-again H e.label)
+  ]
+
+  -- The stored triples denote the transitions es followed by e.
+  pub Holds-add : Holds H n now (es ++ e ∷ [])
+  Holds-add =
+      let still = transitions-kept old.labels now.labels n old.transitions added.keeps held.among in
+      let all : All (IsTriple (length now.labels) n) old.transitions = grind (arith, held.among, added.keeps.longer) in
+      record {
+        hidden = grind (arith, map_push, now.labels, old.transitions, held.hidden, added.numbered.text);
+        among = rw added.items (All-push (IsTriple (length now.labels) n) old.transitions triple all
+            (record { source = among.source; label = added.numbered.below; target = among.target }));
+        carried = carried_more;
+        shown = shown_more;
+      }
 
 -- If no triples and no labels are stored yet, then the stored triples denote the empty list of transitions.
 pub Holds-new : (H : List (List ℕ)) (n : ℕ) (held : Held) → held.labels ≡ [] → held.transitions ≡ [] → Holds H n held []

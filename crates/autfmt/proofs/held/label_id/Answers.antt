@@ -1,24 +1,21 @@
-use Rattle.std.proofs.Common.{rules, ◌≡◌, sym, subst}
+use Rattle.std.proofs.Common.{rules, ◌≡◌}
 use Rattle.theory.specs.System.{internal, hidden_label}
-use Rattle.lts.specs.Labels.{IsLabelId, Interns}
-use Rattle.autfmt.proofs.Holding.{hidden_label-hidden, hidden_label-shown, contains_numbered}
+use Rattle.autfmt.proofs.Holding.{hidden_label-hidden, hidden_label-shown}
 use Rattle.autfmt.proofs.held.label_id.Goals as goal
 use Rattle.autfmt.proofs.held.label_id.Goals.{In-Some, In_default}
 
 -- If the hide list (the list of the labels to hide) contains the label, then hiding changes the label into the internal
 -- label.
 hidden : (c : In-Some) → hidden_label c.args.h.now c.args.label.now ≡ internal
-hidden c = search (rules, hidden_label-hidden, contains_numbered, c.in-Some.hidden, c.in-Some.ensures.number)
+hidden c = search (rules, hidden_label-hidden, c.in-Some.ensures.number)
 
 pub returns-in-Some-clause-number : goal.returns-in-Some-clause-number
 returns-in-Some-clause-number c _ =
-    subst (IsLabelId c.intern.new.self c.in_ok-number.number)
-    (sym (hidden ((goal.at.returns-in-Some-clause-number c).In-Some))) c.in_ok-number.ensures.number
+    rw (hidden ((goal.at.returns-in-Some-clause-number c).In-Some)) c.in_ok-number.ensures.number
 
 pub returns-in-Some-clause-table : goal.returns-in-Some-clause-table
 returns-in-Some-clause-table c _ =
-    subst (λ a. Interns c.args.labels.now a c.intern.new.self)
-    (sym (hidden ((goal.at.returns-in-Some-clause-table c).In-Some))) c.in_ok-number.ensures.table
+    rw (hidden ((goal.at.returns-in-Some-clause-table c).In-Some)) c.in_ok-number.ensures.table
 
 -- If the hide list (the list of the labels to hide) does not contain the label, then hiding does not change the label.
 shown : (c : In_default) → hidden_label c.args.h.now c.args.label.now ≡ c.args.label.now
@@ -26,10 +23,7 @@ shown c = hidden_label-shown c.args.h.now c.args.label.now c.in_default.ensures.
 
 pub returns-clause-number : goal.returns-clause-number
 returns-clause-number c _ =
-    subst (IsLabelId c.intern-2.new.self c.in_ok-number-2.number)
-    (sym (shown ((goal.at.returns-clause-number c).In_default))) c.in_ok-number-2.ensures.number
+    rw (shown ((goal.at.returns-clause-number c).In_default)) c.in_ok-number-2.ensures.number
 
 pub returns-clause-table : goal.returns-clause-table
-returns-clause-table c _ =
-    subst (λ a. Interns c.args.labels.now a c.intern-2.new.self)
-    (sym (shown ((goal.at.returns-clause-table c).In_default))) c.in_ok-number-2.ensures.table
+returns-clause-table c _ = rw (shown ((goal.at.returns-clause-table c).In_default)) c.in_ok-number-2.ensures.table

@@ -96,5 +96,5 @@ returns-clause-transition g c =
           let cut = HasCut-line given s.0 before c.args.cutter.now standing.0.cut _ s.2 in
           let so_far = transition_good s.0 standing.0 _ _ e cut s.2.1.short good among in
           let added = c.in_ok-add.ensures.added standing.1.shown in
-          (e, (so_far, Holds-add _ _ _ _ es e standing.1 among added)),
+          (e, (so_far, Holds-add es e standing.1 among added)),
     )

@@ -20,4 +20,4 @@ returns-clause-taken c =
     (λ more end. divides more) front.short front.spelled among in
     let added = c.in_ok-is_added.ensures.added standing.1.shown yes in
     let passed = c.pass.ensures.passed front.line _ front.whole refl in
-    (e, (rw passed so_far, Holds-add _ _ _ _ es e standing.1 among added))
+    (e, (rw passed so_far, Holds-add es e standing.1 among added))
