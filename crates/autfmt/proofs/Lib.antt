@@ -11,6 +11,5 @@ pub mod HideSteps
 pub mod Progress
 pub mod Ranks
 pub mod Rows
-pub mod RowTexts
 pub mod ReadBack
 pub mod UsualLines

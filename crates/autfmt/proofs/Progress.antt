@@ -1,15 +1,16 @@
 -- The lemmas in this file are about writing lines to a sink (an object to which an output is written) through a buffer.
 -- The last lemmas are about labels and targets that are written to the buffer by copying an array of fixed length.
-use Rattle.std.proofs.Common.{◌≡◌, ℕ, ◌+◌, ◌<◌, List, [], ◌++◌, length, map, get_or, take, drop, refl, sym, ap, ◌∙◌}
-use Rattle.std.proofs.Common.{subst, Option, append_assoc, arith, ◌⊎◌, inl, inr, ◌-◌, ◌≤◌, ◌∷◌, codes, decimal, ap₂}
-use Rattle.std.proofs.Common.{length-append, append-nil, take-append-drop, take-take, length-take-le, length-drop}
+use Rattle.std.proofs.Common.{◌≡◌, ℕ, ◌+◌, ◌<◌, List, [], ◌++◌, length, get_or, take, drop, refl, sym, ap, ◌∙◌}
+use Rattle.std.proofs.Common.{subst, Option, append_assoc, arith, inl, inr, ◌-◌, ◌≤◌, ◌∷◌, codes, decimal, ap₂}
+use Rattle.std.proofs.Common.{flat_map, length-append, append-nil, take-append-drop, take-take, length-take-le, length-drop}
 use Rattle.std.specs.Io.KnownBytes.{Appends}
 use Rattle.std.proofs.{KnownBytes.Appends-nil, KnownBytes.Appends-trans, Math.Seq.take-append-add}
 use Rattle.std.proofs.lemmas.{List.Concat.flat_map-append, Bool.cases_lt}
-use Rattle.std.proofs.lemmas.List.{map_more, map-append, get_or-map, get_or_append_left, get_or-append_right}
-use Rattle.lts.specs.{Labels.text_of, Lts.Triple, Lts.transition_of}
-use Rattle.autfmt.specs.{Progress.Progress, Ranks.Entry, Ranks.texts, Stream.AppendsPrefix, LabelTexts.from_source}
-use Rattle.autfmt.specs.{LabelTexts.written_lines, Written.written_transition, Fronts.IsSpelled, Fronts.AreSpelled}
+use Rattle.std.proofs.lemmas.List.{take_more, get_or-map, get_or_append_left, get_or-append_right}
+use Rattle.theory.specs.System.{Transition}
+use Rattle.lts.specs.Labels.{text_of}
+use Rattle.autfmt.specs.{Progress.Progress, Ranks.Entry, Ranks.texts, Stream.AppendsPrefix}
+use Rattle.autfmt.specs.{Written.written_transition, Fronts.IsSpelled, Fronts.AreSpelled}
 use Rattle.autfmt.specs.declared.spelling.Spelled.{Spelled}
 use Rattle.autfmt.proofs.Lists.{begins_with}
 
@@ -33,67 +34,53 @@ pub nothing_put : (w : Option (List ℕ)) (bytes : List ℕ) → Progress w w by
 nothing_put w bytes = record { front = []; gained = Appends-nil w; whole = refl }
 
 -- Suppose that writing the bytes in the buffer to the sink (the object to which the output is written) fails. Then the
--- bytes that were written to the sink are a prefix of the whole output that has been produced so far.
-pub beginning_put : {old mid : Option (List ℕ)} {waiting bytes : List ℕ} (new : Option (List ℕ)) →
-    Progress old mid waiting bytes → AppendsPrefix mid new waiting → AppendsPrefix old new bytes
-beginning_put {old} {mid} new p (front, back, is, put) =
-    (p.front ++ front, back, rw (p.whole, is, append_assoc) refl, Appends-trans old mid new p.front front p.gained put)
-
--- If the bytes that were written to the sink are a prefix of the list `bytes`, then the written bytes are a prefix of
--- each longer list that begins with `bytes`.
-pub longer : {bytes : List ℕ} (old new : Option (List ℕ)) (rest : List ℕ) → AppendsPrefix old new bytes →
-    AppendsPrefix old new (bytes ++ rest)
-longer old new rest (front, back, is, put) = (front, back ++ rest, rw (is, append_assoc) refl, put)
+-- bytes that were written to the sink are a prefix of each list that begins with the output that has been produced so
+-- far.
+pub beginning_put : {old mid : Option (List ℕ)} {waiting bytes : List ℕ} (new : Option (List ℕ)) (rest : List ℕ) →
+    Progress old mid waiting bytes → AppendsPrefix mid new waiting → AppendsPrefix old new (bytes ++ rest)
+beginning_put {old} {mid} new rest p (front, back, is, put) = (
+  p.front ++ front,
+  back ++ rest,
+  rw (p.whole, is) (simp append_assoc),
+  Appends-trans old mid new p.front front p.gained put,
+)
 
 pub everything_put : {old mid : Option (List ℕ)} {waiting bytes : List ℕ} (new : Option (List ℕ)) →
     Progress old mid waiting bytes → Appends mid new waiting → Appends old new bytes
 everything_put {old} {mid} {waiting} new p put = rw p.whole (Appends-trans old mid new p.front waiting p.gained put)
 
--- If two lists of transitions are concatenated, then the lines of the result are the lines of the first list, followed
--- by the lines of the second list.
-pub lines-append : (entries : List Entry) (xs ys : List Triple) →
-    written_lines entries (xs ++ ys) ≡ written_lines entries xs ++ written_lines entries ys
-lines-append entries xs ys = rw (map-append, flat_map-append) refl
-
-module _ (entries : List Entry) (source : ℕ) (row : List (ℕ × ℕ)) where
-  -- A row consists of the outgoing transitions of one state. `lines_to i` returns the lines of the first i transitions
-  -- of the row, and `lines_from i` returns the lines of the other transitions of the row.
+-- The lines of a row, which consists of the outgoing transitions of one state, are written one after the other.
+module _ (row : List Transition) where
+  -- `lines_to i` returns the lines of the first i transitions of the row.
   abbrev pub lines_to : ℕ → List ℕ
-  lines_to i = written_lines entries (map (from_source source) (take i row))
-
-  abbrev pub lines_from : ℕ → List ℕ
-  lines_from i = written_lines entries (map (from_source source) (drop i row))
-
-  pub lines_at : (i : ℕ) → lines_to i ++ lines_from i ≡ written_lines entries (map (from_source source) row)
-  lines_at i = rw (← lines-append, ← map-append, take-append-drop) refl
-
-  one_line_more : (i : ℕ) (d : ℕ × ℕ) → i < length row → lines_to (i + 1) ≡ lines_to i ++ written_transition
-      (transition_of (texts entries) (from_source source (get_or row i d)))
-  one_line_more i d h = rw (map_more (from_source source) row i d h, lines-append entries, append-nil) refl
+  lines_to i = flat_map written_transition (take i row)
 
   -- Suppose that the bytes that were written to the sink (the object to which the output is written), followed by the
   -- bytes in the buffer, are the bytes `start`, followed by the lines of the first i transitions of a row. Suppose also
   -- that bytes of the buffer are then written to the sink, and that the line of the transition at the index i of this
   -- row is appended to the buffer. Then the bytes that were written to the sink, followed by the bytes in the buffer,
   -- are `start`, followed by the lines of the first i + 1 transitions.
-  pub line_waits : {old mid new : Option (List ℕ)} {waiting earlier label : List ℕ} (start : List ℕ) (i : ℕ) (d : ℕ × ℕ)
-      → i < length row → Progress old mid waiting (start ++ lines_to i) → Progress mid new earlier waiting
-      → label ≡ text_of (texts entries) (get_or row i d).0 → (now : List ℕ) → now ≡ earlier ++ written_transition
-      (record { source = source; label = label; target = (get_or row i d).1 })
+  pub line_waits : {old mid new : Option (List ℕ)} {waiting earlier now : List ℕ} (start : List ℕ) (i : ℕ)
+      (e : Transition) → i < length row → get_or row i e ≡ e → Progress old mid waiting (start ++ lines_to i)
+      → Progress mid new earlier waiting → now ≡ earlier ++ written_transition e
       → Progress old new now (start ++ lines_to (i + 1))
-  line_waits start i d h p q named now is =
-      let line = written_transition (transition_of (texts entries) (from_source source (get_or row i d))) in
-      rw (is, named, one_line_more i d h, ← append_assoc start (lines_to i) line) (waits_too line (goes_on p q))
+  line_waits start i e h here p q is =
+      let more : lines_to (i + 1) ≡ lines_to i ++ written_transition e =
+      rw (take_more row i e h, here, flat_map-append, append-nil) refl in
+      rw (is, more, ← append_assoc start (lines_to i) (written_transition e))
+      (waits_too (written_transition e) (goes_on p q))
 
-  -- A row consists of the outgoing transitions of one state. Suppose that the first i lines of a row have been appended
-  -- to the buffer, and that writing the buffer to the sink (the object to which the output is written) fails. Then the
-  -- bytes that were written to the sink are a prefix of the output up to the end of this row.
+  -- Suppose that the first i lines of a row have been appended to the buffer, and that writing the buffer to the sink
+  -- (the object to which the output is written) fails. Then the bytes that were written to the sink are a prefix of the
+  -- output up to the end of this row.
   pub row_begun : {old mid : Option (List ℕ)} {waiting : List ℕ} (new : Option (List ℕ)) (start : List ℕ) (i : ℕ)
       → Progress old mid waiting (start ++ lines_to i) → AppendsPrefix mid new waiting
-      → AppendsPrefix old new (start ++ written_lines entries (map (from_source source) row))
+      → AppendsPrefix old new (start ++ flat_map written_transition row)
   row_begun {old} new start i p put =
-      subst (AppendsPrefix old new) (append_assoc start (lines_to i) (lines_from i)
-      ∙ ap (λ l. start ++ l) (lines_at i)) (longer old new (lines_from i) (beginning_put new p put))
+      let rest = flat_map written_transition (drop i row) in
+      let all : lines_to i ++ rest ≡ flat_map written_transition row = rw (← flat_map-append, take-append-drop) refl in
+      subst (AppendsPrefix old new) (append_assoc start (lines_to i) rest ∙ ap (λ l. start ++ l) all)
+      (beginning_put new rest p put)
 
 pub label_at : (entries : List Entry) (r : ℕ) (d : Entry) → r < length entries →
     (get_or entries r d).0.now ≡ text_of (texts entries) r
@@ -134,9 +121,7 @@ pub one_spelled_more : (entries : List Entry) (spellings grown : List Spelled) (
     → i < length entries → length spellings ≡ i → AreSpelled (texts entries) spellings
     → IsSpelled (get_or entries i d).0.now x → grown ≡ spellings ++ x ∷ [] → AreSpelled (texts entries) grown
 one_spelled_more entries spellings grown x i d within last are is new =
-    rw new (λ k e h. at k e h (cases_lt k (length spellings)))
-  where
-    at : (k : ℕ) (e : Spelled) → k < length (spellings ++ x ∷ []) → (k < length spellings) ⊎ (length spellings ≤ k) →
-        IsSpelled (get_or (texts entries) k []) (get_or (spellings ++ x ∷ []) k e)
-    at k e h (inl p) = rw (get_or_append_left spellings (x ∷ []) e k p) (are k e p)
-    at k e h (inr p) = grind (arith, length-append, get_or-append_right, label_at)
+    rw new (λ k e h. elim (cases_lt k (length spellings)) [
+      | inl p ↦ rw (get_or_append_left spellings (x ∷ []) e k p) (are k e p)
+      | inr p ↦ grind (arith, length-append, get_or-append_right, label_at)
+    ])

@@ -1,14 +1,13 @@
 -- This file is about the labels of a label table and their written forms, sorted by the bytes of the labels. The rank
 -- of a label is its position in this order.
-use Rattle.std.specs.Prelude.{◌≡◌, ℕ, List, map}
-use Rattle.std.specs.List.{All, flat_map}
-use Rattle.theory.specs.System.{IsLabel}
-use Rattle.lts.specs.Lts.{Triple, transition_of}
+use Rattle.std.specs.Prelude.{◌≡◌, ℕ, List, length, map}
+use Rattle.std.specs.List.{All}
+use Rattle.theory.specs.System.{IsLabel, Transition}
+use Rattle.lts.specs.Labels.{text_of}
 use Rattle.autfmt.specs.declared.wording.Words.{Words}
 use Rattle.autfmt.specs.Fronts.{AreSpelled}
 use Rattle.autfmt.specs.Grammar.{is_plain}
 use Rattle.autfmt.specs.Ranks.{Entry, texts, IsByBytes, AreRanks}
-use Rattle.autfmt.specs.Written.{written_transition}
 
 -- `AreReady words` holds if the labels in `words` are ready to be written. All three of the following conditions must
 -- hold. First, the entries of `words` contain only valid labels. Second, the list `plain` states for each entry whether
@@ -26,16 +25,11 @@ pub record AreReady (words : Words) : Type 0 where
 -- be written (`AreReady`).
 pub record AreWords (labels : List (List ℕ)) (words : Words) : Type 0 where
   pub by_bytes : IsByBytes labels words.entries.items
-  pub ranks : AreRanks words.entries.items words.ranks.items
+  pub ranks : AreRanks words.entries.items (length words.entries.items) words.ranks.items
   pub ready : AreReady words
 
--- `from_source source p` is the triple of a transition with the source `source`. The pair p contains the rank of the
--- label and the target of the transition. (The rank is the position of the label when all labels are sorted by their
--- bytes.) The triple consists of the source, the rank and the target.
-abbrev pub from_source : ℕ → ℕ × ℕ → Triple
-from_source source p = (source, p.0, p.1)
-
--- `written_lines entries order` are the lines that are written for the transitions in the list `order`. In this list,
--- each label is given by its rank, which is the index of the label in the sorted list `entries`.
-abbrev pub written_lines : List Entry → List Triple → List ℕ
-written_lines entries order = flat_map written_transition (map (transition_of (texts entries)) order)
+-- `from_pair entries source p` is the transition from the state `source` that the pair p represents. The pair contains
+-- the rank of the label, which is the index of the label in the sorted list `entries`, and the target of the
+-- transition.
+abbrev pub from_pair : List Entry → ℕ → ℕ × ℕ → Transition
+from_pair entries source p = record { source = source; label = text_of (texts entries) p.0; target = p.1 }

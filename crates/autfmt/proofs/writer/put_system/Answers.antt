@@ -2,7 +2,7 @@ use Rattle.std.proofs.Common.{◌≡◌, ◌<◌, length, sym, ap, ◌∙◌, su
 use Rattle.std.proofs.lemmas.Result.{err_from_is_err_and, MatchResult-weaker}
 use Rattle.lts.specs.Lts.{before}
 use Rattle.autfmt.proofs.{Ranks.row_ranks_below, Progress.nothing_put}
-use Rattle.autfmt.proofs.RowTexts.{no_row, next_row, rows_begun, rows_put}
+use Rattle.autfmt.proofs.Rows.{no_row, next_row, rows_begun, rows_put}
 use Rattle.autfmt.proofs.writer.put_system.Goals as goal
 
 pub loop-source-init : goal.loop-source-init
@@ -20,12 +20,12 @@ loop-source-init g c =
 pub put_row-requires-clause-ranks : goal.put_row-requires-clause-ranks
 put_row-requires-clause-ranks g c =
     subst (All (λ p. p.0 < length c.args.words.now.entries.items)) (sym c.deref-transitions.ensures.value)
-    (row_ranks_below c.loop-source.source c.invariants.ensures c.requires.words.by_bytes c.requires.words.ranks
-    (rw c.deref.ensures.value at c.read_row.ensures.row).same)
+    (row_ranks_below c.invariants.ensures c.requires.words c.loop-source.source
+    (rw c.deref.ensures.value at c.read_row.ensures.row))
 
 pub returns-in_err-waiting-clause-text : goal.returns-in_err-waiting-clause-text
 returns-in_err-waiting-clause-text g c =
-    let row = next_row c.invariants.ensures c.requires.words c.read_row.new.row.items c.loop-source.invariant.rows
+    let row = next_row c.invariants.ensures c.requires.words c.loop-source.invariant.rows
     (rw c.deref.ensures.value at c.read_row.ensures.row) (nothing_put _ _) in
     let p = err_from_is_err_and c.from_residual.result c.from_residual.ensures.1 in
     rw p.1 (rows_begun c.invariants.ensures c.requires.words (g.W.Sink.written c.put_row.new.w) row
@@ -36,7 +36,7 @@ loop-source-preserved g c =
     let next = c.rows_follow.ensures.next c.loop-source.source c.args.s.now.places in
     record {
       rows =
-          next_row c.invariants.ensures c.requires.words c.read_row.new.row.items c.loop-source.invariant.rows
+          next_row c.invariants.ensures c.requires.words c.loop-source.invariant.rows
           (rw c.deref.ensures.value at c.read_row.ensures.row)
           (rw c.deref-transitions.ensures.value at c.in_ok-waiting.ensures.lines);
       within = c.in_ok-waiting.ensures.waiting;

@@ -1,11 +1,11 @@
 use Rattle.std.proofs.Common.{◌≡◌, ◌≤◌, length, take, vec_capacity}
 use Rattle.lts.specs.{Lts.before, Meter.Costs}
-use Rattle.autfmt.proofs.RowTexts.{RowsWait}
+use Rattle.autfmt.proofs.Rows.{RowsWait}
 use Rattle.autfmt.proofs.writer.put_system.Given as goal
 
 abbrev pub invariant-loop-source : goal.invariant-loop-source
 invariant-loop-source g l = record {
-  rows : RowsWait l.s l.words (g.W.Sink.written l.fn.w) (g.W.Sink.written l.w) (take l.waiting l.buffer) l.source;
+  rows : RowsWait l.s (g.W.Sink.written l.fn.w) (g.W.Sink.written l.w) (take l.waiting l.buffer) l.source;
   within : l.waiting ≤ length l.buffer;
   sound : g.W.Sink.failures l.w ≡ 0;
   capacity : vec_capacity l.row ≡ vec_capacity l.fn.row;
