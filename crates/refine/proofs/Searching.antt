@@ -24,7 +24,7 @@ use Rattle.inert.specs.{Signed.HasPair, Signed.IsSignature, Signed.pair_under, S
 use Rattle.inert.specs.{Search.LeadsInertly, Search.Laws, declared.lens.Step.Step as RowStep}
 use Rattle.refine_core.specs.Index.{IsUnmarked}
 use Rattle.partition.proofs.CallerLemmas.{in_one}
-use Rattle.refine_core.proofs.CallerLemmas.{none_marked, marked_more}
+use Rattle.refine_core.proofs.CallerLemmas.{none_marked, marked_more, found_few}
 use Rattle.refine.specs.Search.{FoundStates, WasFound, Reaches, ExploresStep, IsExplored, FindsFrom, Continues}
 
 module _ (places : List Triple) where
@@ -67,6 +67,9 @@ module _ (places : List Triple) where
       → (row_length (slice_index xs 0) ≤ sum_by row_length (take i xs))
       × (sum_by row_length (take i xs) ≤ length places)
   rows_all xs i once long some = rw (take_all i xs long) (get_or-le-sum_by row_length xs 0 0 some, rows_few xs once)
+
+-- These lemmas bound the number of the states that a search has found, and the number of their transitions.
+pub ruleset search_bounds = (rows_room, rows_all, found_few)
 
 -- `ReadsRow` is the invariant of the loop in which a search reads the transitions of one found state. This state is at
 -- the index i in the list of found states. The place of a transition is its index in the list of all transitions, and
@@ -233,12 +236,5 @@ pub begun : (u : Under) (s : ℕ) (marked : List Bool) (new : FoundStates) → L
     → length marked ≡ u.l.states → IsUnmarked marked
     → Reaches s (record { marked = marked; states = []; pairs = [] }) new → FindsFrom u s new 0
 begun u s marked new laws below size off (inl (was, is)) = absurd (off s was)
-begun u s marked new laws below size off (inr (now, is)) = subst (λ f. FindsFrom u s f 0) (sym is) (record {
-  size = length-set marked s true ∙ size;
-  marked = marked_more marked [] s below (off s) (none_marked marked off);
-  first = (omega arith, refl);
-  led = search rules;
-  few = omega arith;
-  own = λ z c. absurd (omega (arith, c.1));
-  taken = λ j h k l is. absurd (omega (arith, h));
-})
+begun u s marked new laws below size off (inr (now, is)) = subst (λ f. FindsFrom u s f 0) (sym is)
+    (search (rules, size, marked_more marked [] s below (off s) (none_marked marked off)))

@@ -87,6 +87,7 @@ impl Search {
     /// itself. For each transition of these states that is not inert, the function collects a pair: the label ID of the
     /// transition, and the block ID of its target. Even if the call fails, exactly the states in the list `states` are
     /// marked when the call returns.
+    #[tactic(auto, using(crate::proofs::Searching::search_bounds))]
     fn find<M: Meter>(&mut self, lens: &Lens<M>, s: u32, m: &mut M) -> Result<(), Memory>
         requires visited { lens.now.visited ≡ [] }
         requires state { s < lens.now.l.states }

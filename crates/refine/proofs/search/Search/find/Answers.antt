@@ -1,7 +1,7 @@
 use Rattle.std.proofs.Common.{rules, ◌≡◌, [], arith}
 use Rattle.refine.specs.Search.{Reaches}
-use Rattle.refine_core.proofs.CallerLemmas.{found_few, none_marked}
-use Rattle.refine.proofs.Searching.{begun, rows_room, rows_all}
+use Rattle.refine_core.proofs.CallerLemmas.{none_marked}
+use Rattle.refine.proofs.Searching.{begun}
 use Rattle.refine.proofs.search.Search.find.Goals as goal
 
 pub returns-in_err-reach-clause-marks : goal.returns-in_err-reach-clause-marks
@@ -21,23 +21,3 @@ loop-i-init g c =
       rounds = search rules;
       visits = omega arith;
     }
-
-pub loop-i-smaller : goal.loop-i-smaller
-loop-i-smaller g c =
-    search (
-      rules,
-      c.loop-i.invariant.search,
-      found_few,
-      c.len.ensures,
-      c.self-in-loop-i.inside.states.ok,
-      c.self-in-loop-i.view_is,
-    )
-
-pub read-requires-clause-room : goal.read-requires-clause-room
-read-requires-clause-room g c = search (rules, rows_room)
-
-pub returns-in_err-read-clause-visits : goal.returns-in_err-read-clause-visits
-returns-in_err-read-clause-visits g c = search (rules, rows_room)
-
-pub returns-clause-visits : goal.returns-clause-visits
-returns-clause-visits g c = search (rules, rows_all)
