@@ -1,10 +1,10 @@
 -- Lemmas about filtered lists and mapped lists: their elements and their lengths, and the result of filtering a list
--- that was filtered or mapped before.
+-- that was filtered or mapped before. The last lemma is about the first elements of a list.
 use Rattle.std.proofs.Common.{get_or, ◌≡◌, Bool, true, List, [], ◌∷◌, map, Contains, refl, ap, ◌∙◌, arith, rules, ℕ}
-use Rattle.std.proofs.Common.{◌+◌, ◌<◌, ◌≤◌, ◌↔◌, false, cond, ◌&&◌, length, filter, All, take, drop}
+use Rattle.std.proofs.Common.{◌+◌, ◌<◌, ◌≤◌, ◌↔◌, false, cond, ◌&&◌, length, filter, All, take, drop, ◌-◌, ◌++◌}
 use Rattle.std.specs.List.{slice_range}
 use Rattle.std.proofs.lemmas.{Bool.cond_both, Bool.cond-true, Bool.cond-false, Bool.cases_Bool, List.length-map}
-use Rattle.std.proofs.lemmas.{List.get_or-map, List.places, List.append-nil, List.Edits.split_between}
+use Rattle.std.proofs.lemmas.{List.get_or-map, List.places, List.same_lists, List.append-nil, List.Edits.split_between}
 use Rattle.std.proofs.lemmas.List.Elements.{Contains-get_or, All-contains, All-contains_itself, All-map, All-filter}
 use Rattle.std.proofs.lemmas.List.Elements.{filter_passes, All-head, All-tail, filter-append}
 use Rattle.theory.proofs.CallerLemmas.{contains_here, contains_there, contains_cases, contains_none}
@@ -83,3 +83,8 @@ pub filter-map : {X Y : Type 0} (p : Y → Bool) (f : X → Y) (xs : List X) →
     filter p (map f xs) ≡ map f (filter (λ x. p (f x)) xs)
 filter-map p f [] = refl
 filter-map p f (x ∷ xs) = search (rules, filter-map p f xs)
+
+-- If i is at most j, the first j elements of a list are the first i elements, followed by the elements at the indices k
+-- with i <= k < j.
+pub take-split : {X : Type 0} (i j : ℕ) (xs : List X) → i ≤ j → take j xs ≡ take i xs ++ take (j - i) (drop i xs)
+take-split i j xs h = same_lists _ _ (search (rules, places)) (λ k d l. grind (arith, places))

@@ -2,8 +2,6 @@ pub mod CallerLemmas
 pub mod Table
 pub mod Filters
 pub mod Rows
-pub mod Placing
 pub mod StoredRows
-pub mod Joining
 pub mod Indexing
 pub mod Visits

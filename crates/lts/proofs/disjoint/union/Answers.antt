@@ -2,7 +2,7 @@ use Rattle.std.proofs.Common.{rules, ◌≡◌, ◌∙◌, sym, ◌+◌, length,
 use Rattle.std.proofs.lemmas.Result.{IfOk-weaker}
 use Rattle.theory.specs.Union.{union_of}
 use Rattle.lts.specs.{Lts.transition_of, Lts.system_of, Lts.IsBuilt, Union.IsJoined}
-use Rattle.lts.proofs.Joining.{AddsShifted-both, AddsShifted-length, IsUnion, union-made}
+use Rattle.lts.proofs.Table.{AddsShifted-both, AddsShifted-length, IsUnion, union-made}
 use Rattle.lts.proofs.disjoint.union.Given.{Over}
 use Rattle.lts.proofs.disjoint.union.Goals as goal
 

@@ -1,6 +1,6 @@
 use Rattle.std.proofs.Common.{rules, ◌+◌, ◌<◌, length, take, arith, length-take, take_all}
 use Rattle.lts.specs.Lts.{Triple}
-use Rattle.lts.proofs.{Rows.before-zero, Rows.before-all, Joining.AddsShifted-length, Joining.joins_next}
+use Rattle.lts.proofs.{Rows.before-zero, Rows.before-all, Table.AddsShifted-length, Table.joins_next}
 use Rattle.lts.proofs.disjoint.Joined.append.Goals as goal
 
 pub loop-state-init : goal.loop-state-init

@@ -1,5 +1,5 @@
 use Rattle.lts.specs.Lts.{before}
-use Rattle.lts.proofs.Joining.{HasAppended}
+use Rattle.lts.proofs.Table.{HasAppended}
 use Rattle.lts.proofs.disjoint.Joined.append.Given as goal
 
 abbrev pub invariant-loop-state : goal.invariant-loop-state
