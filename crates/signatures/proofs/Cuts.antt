@@ -7,31 +7,24 @@
 -- is the number that is divisible by the highest power of two (`IsCutPoint`). The last lemmas show under which
 -- conditions two interned lists are the halves of a list, and that no two other interned lists are the halves of this
 -- list.
-use Rattle.std.proofs.Common.{rules, ◌≡◌, ◌↔◌, ◌⊎◌, ℕ, ◌+◌, ◌^◌, ◌<◌, ◌≤◌, List, [], ◌∷◌, ◌++◌, length, get_or, take}
-use Rattle.std.proofs.Common.{drop, true, false, ltb, Contains, Less, inl, inr, arith, take-append-drop, length-drop}
-use Rattle.std.proofs.Common.{length-append, get_or-take, get_or-drop, get_or-append-add, ◌∙◌, ◌-◌, ◌*◌, ◌/◌, ◌%◌, ap}
-use Rattle.std.proofs.Common.{sym, shr-shr, div-add-mod', ◌≢◌, suc, bit_xor, add-one, div-mul-le_self, pow_pos, min}
-use Rattle.std.proofs.Common.{max, ⊎_elim}
+use Rattle.std.proofs.lemmas.{Grind.elements, Grind.common_steps, List.Elements.Contains-get_or, List.get_or_default}
+use Rattle.std.proofs.Common.{rules, ◌≡◌, ◌↔◌, ◌⊎◌, ℕ, ◌+◌, ◌^◌, ◌<◌, ◌≤◌, List, [], ◌++◌, length, get_or, take, drop}
+use Rattle.std.proofs.Common.{true, false, ltb, Contains, Less, inl, inr, arith, take-append-drop, length-drop}
+use Rattle.std.proofs.Common.{length-append, get_or-take, get_or-drop, ◌∙◌, ◌-◌, ◌*◌, ◌/◌, ◌%◌, ap, sym, shr-shr}
+use Rattle.std.proofs.Common.{div-add-mod', ◌≢◌, suc, bit_xor, add-one, div-mul-le_self, pow_pos, min, max, ⊎_elim}
+use Rattle.std.{specs.Int.Count.count_leading_zeros, proofs.lemmas.Bool.cases_lt, proofs.lemmas.Bool.cases_order}
+use Rattle.std.proofs.lemmas.{Nat.shl-shr, Nat.le-div, Nat.xor_shr, Nat.xor_lt, Nat.leading_top, Bool.cases_eq}
 use Rattle.std.specs.List.Sorted.{IsStrictlySortedBy, IsNonDecreasingBy, IsPartitionPoint}
-use Rattle.std.specs.Int.Count.{count_leading_zeros}
-use Rattle.std.proofs.lemmas.Bool.{cases_eq, cases_lt, cases_order}
+use Rattle.std.proofs.{Math.Pow.shr_mono, lemmas.Map.Keys.sorted_from_all_adjacent, lemmas.Map.Keys.Less-from_sorted}
 use Rattle.std.proofs.lemmas.List.Elements.{Contains-append_cases, Contains-append_left, Contains-append_right}
-use Rattle.std.proofs.lemmas.Map.Keys.{sorted_from_all_adjacent, sorted_tail, Less-from_sorted}
-use Rattle.std.proofs.lemmas.Nat.{shl-shr, le-div, xor_shr, xor_lt, leading_top}
 use Rattle.std.proofs.lemmas.Nat.Bits.{same_from_bits, bit_at_xor, bit_at-zero, bit_at-lt}
-use Rattle.std.proofs.lemmas.{List.Elements.Contains-get_or, List.places, List.get_or_default, Grind.common_steps}
 use Rattle.signatures.specs.Cuts.{pair_value, Fit, IsUnder, IsOver, IsCut, IsParted, IsCutPoint, IsAlike}
-use Rattle.signatures.specs.Lists.{pair_cmp, list_at}
-use Rattle.signatures.specs.{declared.nodes.Halves.Halves, declared.nodes.TheConstants.MOST_WHOLE, Nodes.AreStored}
-use Rattle.signatures.specs.{Nodes.AreHalvesIn, Hashed.AreDifferent, Unions.Unites}
-use Rattle.signatures.proofs.Ascending.{pair_total, here, there, ascending_cons, ascending_first, ascending_unique}
-use Rattle.std.proofs.Math.Pow.{shr_mono}
+use Rattle.signatures.specs.{Unions.Unites, Lists.pair_cmp, Lists.list_at, Nodes.AreStored, Nodes.AreHalvesIn}
+use Rattle.signatures.specs.{Hashed.AreDifferent, declared.nodes.Halves.Halves, declared.nodes.TheConstants.MOST_WHOLE}
+use Rattle.signatures.proofs.Ascending.{pair_total, ascending_unique}
 
-pub less_from_key : (x y : ℕ × ℕ) → x.1 < 2 ^ 32 → y.1 < 2 ^ 32 → pair_value x < pair_value y → pair_cmp x y ≡ Less
-less_from_key x y small fits h = search rules
-
-pub key_from_less : (x y : ℕ × ℕ) → x.1 < 2 ^ 32 → y.1 < 2 ^ 32 → pair_cmp x y ≡ Less → pair_value x < pair_value y
-key_from_less x y small fits h = search rules
+pub key_less : (x y : ℕ × ℕ) → x.1 < 2 ^ 32 → y.1 < 2 ^ 32 → (pair_cmp x y ≡ Less) ↔ (pair_value x < pair_value y)
+key_less x y small fits = search rules
 
 pub halves_has : (below above : List (ℕ × ℕ)) (z : ℕ × ℕ) →
     Contains (below ++ above) z ↔ (Contains below z ⊎ Contains above z)
@@ -46,21 +39,24 @@ halves_has below above z =
 pub halves_ascending : (below above : List (ℕ × ℕ)) (c : ℕ) → IsStrictlySortedBy pair_cmp below
     → IsStrictlySortedBy pair_cmp above → Fit below → Fit above
     → IsUnder below c → IsOver above c → IsStrictlySortedBy pair_cmp (below ++ above)
-halves_ascending [] above c ascending_below ascending_above fit_below fit_above under over = ascending_above
-halves_ascending (x ∷ xs) above c ascending_below ascending_above fit_below fit_above under over =
-    ascending_cons pair_total x (xs ++ above) (λ y d.
-    let first = ascending_first pair_total x xs ascending_below y in
-    let less = less_from_key x y (fit_below x (here x xs)) in
-    grind (arith, Contains-append_cases xs above y d, over y, fit_above y, first, under x (here x xs), less))
-    (halves_ascending xs above c (sorted_tail pair_cmp x xs ascending_below) ascending_above
-    (λ z d. fit_below z (there x xs z d)) fit_above (λ z d. under z (there x xs z d)) over)
+halves_ascending below above c first second fit fit' under over =
+    sorted_from_all_adjacent pair_total (below ++ above) (0, 0) (λ k low.
+    let i = k - length below in
+    let last = get_or below k (0, 0) in
+    let next = get_or above 0 (0, 0) in
+    let has_last = Contains-get_or below k (0, 0) in
+    let has_next = Contains-get_or above 0 (0, 0) in
+    let less = Less-from_sorted pair_cmp below k (k + 1) (0, 0) first in
+    let more = Less-from_sorted pair_cmp above i (i + 1) (0, 0) second in
+    let between = key_less last next in
+    grind (arith, elements, has_last, has_next, less, more, between, fit last, fit' next, under last, over next))
 
 -- Suppose that a list is in strictly ascending order, and that the second component of each of its pairs is less than
 -- 2^32 (`Fit`). Then the numbers that represent its pairs (`pair_value`) are in ascending order.
 pub ascending_keys : (list : List (ℕ × ℕ)) → IsStrictlySortedBy pair_cmp list → Fit list
     → IsNonDecreasingBy pair_value list
 ascending_keys list ascending fit i j d low high =
-    let key = key_from_less (get_or list i d) (get_or list j d) (fit _ (Contains-get_or list i d (omega arith)))
+    let key = key_less (get_or list i d) (get_or list j d) (fit _ (Contains-get_or list i d (omega arith)))
     (fit _ (Contains-get_or list j d high)) in
     grind (arith, cases_eq i j, Less-from_sorted pair_cmp list i j d ascending, key, low, high)
 
@@ -76,12 +72,11 @@ parted_is list c i within point = search (rules, take-append-drop, get_or-take, 
 -- order.
 ascending_both : (xs ys : List (ℕ × ℕ)) → IsStrictlySortedBy pair_cmp (xs ++ ys)
     → IsStrictlySortedBy pair_cmp xs × IsStrictlySortedBy pair_cmp ys
-ascending_both xs ys ascending = (
-  sorted_from_all_adjacent pair_total xs (0, 0) (λ k low. search (rules, places, Less-from_sorted, ascending)),
-  sorted_from_all_adjacent pair_total ys (0, 0) (λ k low.
-      rw (← get_or-append-add xs ys k (0, 0), ← get_or-append-add xs ys (k + 1) (0, 0))
-      (Less-from_sorted pair_cmp (xs ++ ys) _ _ (0, 0) ascending (omega arith) (omega (arith, length-append xs ys)))),
-)
+ascending_both xs ys ascending =
+    let less = λ (k : ℕ). Less-from_sorted pair_cmp (xs ++ ys) k (k + 1) (0, 0) ascending in (
+      sorted_from_all_adjacent pair_total xs (0, 0) (λ k low. grind (arith, elements, less k)),
+      sorted_from_all_adjacent pair_total ys (0, 0) (λ k low. grind (arith, elements, less (length xs + k))),
+    )
 
 -- Suppose that a number divides a list of pairs into two parts: the pairs whose numbers (`pair_value`) are less than
 -- this number, and the other pairs. If the list is in strictly ascending order, both parts are in strictly ascending
@@ -228,21 +223,18 @@ IsCutPoint-highest low high bit before reaches below =
 -- The code uses `leading_zeros` to compute the position of the highest bit in which `low` and `high` differ. The code
 -- then uses two shifts to clear the lower bits of `high`.
 module _ (low high : ℕ) (before : low < high) (fits : high < 2 ^ 64) where
-  top : (bit : ℕ) × (count_leading_zeros 64 (bit_xor low high) + suc bit ≡ 64) × (2 ^ bit ≤ bit_xor low high)
+  pub highest : (bit : ℕ) × (count_leading_zeros 64 (bit_xor low high) + suc bit ≡ 64) × (2 ^ bit ≤ bit_xor low high)
       × (bit_xor low high < 2 ^ suc bit)
-  top = leading_top 64 (bit_xor low high) (search (rules, same_from_xor)) (xor_lt 64 low high (omega arith) fits)
-
-  pub leading_few : count_leading_zeros 64 (bit_xor low high) ≤ 63
-  leading_few = let h = top.1 in omega arith
+  highest = leading_top 64 (bit_xor low high) (search (rules, same_from_xor)) (xor_lt 64 low high (omega arith) fits)
 
   pub leading_place : (bit : ℕ) × IsCutPoint bit low high
       (high / 2 ^ (63 - count_leading_zeros 64 (bit_xor low high)) * 2
       ^ (63 - count_leading_zeros 64 (bit_xor low high)) % 2 ^ 64)
   leading_place =
-      let bit = top.0 in
-      let is : 63 - count_leading_zeros 64 (bit_xor low high) ≡ bit = let h = top.1 in omega arith in
+      let bit = highest.0 in
+      let is : 63 - count_leading_zeros 64 (bit_xor low high) ≡ bit = let h = highest.1 in omega arith in
       let cleared : high / 2 ^ bit * 2 ^ bit % 2 ^ 64 ≡ high / 2 ^ bit * 2 ^ bit = search rules in
-      (bit, rw (is, cleared) (IsCutPoint-highest low high bit before top.2 (rw add-one top.3)))
+      (bit, rw (is, cleared) (IsCutPoint-highest low high bit before highest.2 (rw add-one highest.3)))
 
 -- `HasEnds` is about a list of pairs and the numbers `low` and `high`. Each pair (x, y) is represented by the number
 -- x * 2^32 + y (`pair_value`). `HasEnds` holds if both of the following conditions hold. The first condition is that
@@ -277,10 +269,9 @@ module _ (list : List (ℕ × ℕ)) (ascending : IsStrictlySortedBy pair_cmp lis
 
   pub first_before_last : 1 < length list → low < high
   first_before_last many =
-      let key =
-      key_from_less (get_or list 0 (0, 0)) (get_or list (length list - 1) (0, 0)) (fit _ has_first) (fit _ has_last)
-      (Less-from_sorted pair_cmp list 0 (length list - 1) (0, 0) ascending (omega arith) (omega arith)) in
-      omega arith
+      let less = Less-from_sorted pair_cmp list 0 (length list - 1) (0, 0) ascending (omega arith) (omega arith) in
+      let last = get_or list (length list - 1) (0, 0) in
+      omega (arith, (key_less (get_or list 0 (0, 0)) last (fit _ has_first) (fit _ has_last)).0 less)
 
   pub ends_pairs : HasEnds list low high
   ends_pairs = record {

@@ -4,23 +4,22 @@
 -- same if lists are added to the trie, or if a list is appended to the table of lists. The last lemmas are about the
 -- union of several lists: the bases of the lists are united, and the extra pairs of the lists are collected. Collected
 -- pairs that are already in the base of the union are removed.
-use Rattle.std.proofs.Common.{rules, ◌≡◌, ◌∙◌, ◌⊎◌, ◌↔◌, ℕ, ◌<◌, ◌≤◌, List, [], ◌∷◌, ◌++◌, length, slice_index}
-use Rattle.std.proofs.Common.{Contains, ap, inl, inr, arith, All, ◌+◌, Bool, true, not, filter, Option, None, Some}
-use Rattle.std.proofs.Common.{refl, IfSome, get_or-append-add, length-append}
-use Rattle.std.specs.{List.Sorted.IsStrictlySortedBy, Cmp.eq_by_cmp_equiv, Ordering.eq_by_cmp, Set.is_member}
-use Rattle.std.proofs.lemmas.Bool.{cases_eq, cases_lt, cases_Bool}
-use Rattle.std.proofs.lemmas.List.{length-map, length_push, map-append, get_or-map, get_or_append_left, nil_from_length}
+use Rattle.std.proofs.Common.{refl, Contains, ap, inl, inr, arith, All, ◌+◌, filter, Option, None, Some, rules, ◌≡◌}
+use Rattle.std.proofs.Common.{get_or-append-add, length-append, ◌∙◌, ◌⊎◌, ◌↔◌, ℕ, ◌<◌, ◌≤◌, List, [], ◌∷◌, ◌++◌, length}
+use Rattle.std.proofs.{lemmas.List.get_or_append_left, lemmas.List.nil_from_length, Common.slice_index, Common.IfSome}
+use Rattle.signatures.proofs.Ascending.{is_lacking, passing_has, merged_nil, merged_has, merged_ascending}
+use Rattle.signatures.proofs.Ascending.{ascending_unique, has_pair}
+use Rattle.std.proofs.lemmas.Bool.{cases_lt, cases_Bool, cases_eq}
+use Rattle.std.proofs.lemmas.List.{get_or-append_right, length-map, length_push, map-append, get_or-map}
+use Rattle.std.specs.{Set.is_member, Ordering.eq_by_cmp, List.Sorted.IsStrictlySortedBy}
 use Rattle.std.proofs.lemmas.List.Elements.{All-push, All-weaker, All-contains, All-map}
-use Rattle.std.proofs.lemmas.{List.get_or-append_right, Map.Made.is_member-filter}
 use Rattle.signatures.specs.Lists.{pair_cmp, list_at, merged, AreLists, Grow, HasOne}
 use Rattle.signatures.specs.Extensions.{Includes, extension_at, extended, IsExtension, extended_lists, AreExtended}
 use Rattle.signatures.specs.Extensions.{TableGrows, ShareNone, OneHas, HasBase, HasExtra}
-use Rattle.signatures.specs.{Nodes.AreStored, Hashed.tag_of, Hashed.AreDifferent, Hashed.IsNewList, Unions.Unites}
-use Rattle.signatures.specs.{declared.nodes.TheConstants.MOST_LISTS, declared.table.Table.Table}
-use Rattle.signatures.proofs.Joining.{Grow-same, SomeBelow, up_to_more}
-use Rattle.signatures.proofs.Storing.{map_same, list-old, list-new}
-use Rattle.signatures.proofs.Ascending.{merged_nil, merged_has, merged_ascending, ascending_unique, has_pair}
-use Rattle.signatures.proofs.{Ascending.pair_total, Ascending.pair_Decides, Uniting.unites_is_merged}
+use Rattle.signatures.specs.{Nodes.AreStored, declared.nodes.TheConstants.MOST_LISTS, declared.table.Table.Table}
+use Rattle.signatures.specs.{Hashed.tag_of, Hashed.AreDifferent, Hashed.IsNewList, Unions.Unites}
+use Rattle.signatures.proofs.Storing.{Grow-same, map_same, list-old, list-new}
+use Rattle.signatures.proofs.Uniting.{SomeBelow, up_to_more, unites_is_merged}
 use Rattle.std_collections.proofs.SortedSets.{length_union}
 
 -- A list is stored in two parts: its base, which is a list of pairs that several lists can share, and its extra pairs,
@@ -174,18 +173,6 @@ module _ (extensions : List (ℕ × List (ℕ × ℕ))) (ids : List ℕ) (P : �
   pub extra_more : {A : Type 0} → P x.0 → A ↔ (B ⊎ Contains x.1 z) →
       A ↔ (D ⊎ SomeBelow (IsExtra extensions ids P z) (i + 1))
   extra_more p now = search (rules, up_to_more (IsExtra extensions ids P z) i)
-
--- `is_lacking` is true if the pair z is not in the list.
-abbrev pub is_lacking : List (ℕ × ℕ) → ℕ × ℕ → Bool
-is_lacking list z = not (is_member (eq_by_cmp pair_cmp) list z)
-
--- Suppose that the list xs is filtered by a test. Then a pair is in the filtered list if and only if the pair is in xs
--- and passes the test.
-passing_has : (p : ℕ × ℕ → Bool) (xs : List (ℕ × ℕ)) (z : ℕ × ℕ) → Contains (filter p xs) z
-    ↔ (Contains xs z × (p z ≡ true))
-passing_has p xs z =
-    let same = is_member-filter (eq_by_cmp_equiv pair_total) p z (λ x e. ap p ((pair_Decides z x).0 e)) xs in
-    grind (arith, has_pair (filter p xs) z, has_pair xs z, same, cases_Bool (p z))
 
 -- Suppose that the list `new` results from the list `old` by removing all pairs that are in `list`. Then `new` has no
 -- pair in common with `list`. The lists `list` and `new` together contain the same pairs as the lists `list` and `old`

@@ -2,7 +2,6 @@ pub mod CallerLemmas
 pub mod Ascending
 pub mod Cuts
 pub mod Storing
-pub mod Joining
 pub mod Uniting
 pub mod Marking
 pub mod ExtendedLists

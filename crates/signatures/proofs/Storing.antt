@@ -5,20 +5,17 @@
 -- with each stored list that has the same tag.
 use Rattle.std.proofs.Common.{rules, ◌≡◌, ℕ, ◌+◌, ◌≤◌, List, [], ◌∷◌, ◌++◌, length, refl, arith, All, ◌-◌, drop, map}
 use Rattle.std.proofs.Common.{slice_range, length-drop, length-take, drop_at, take_all, ◌∙◌, zero, suc, ◌<◌, take, ap}
-use Rattle.std.proofs.Common.{sym, subst, length-append, append-nil}
+use Rattle.std.{specs.List.Sorted.IsStrictlySortedBy, proofs.Common.length-append, proofs.Common.append-nil}
+use Rattle.std.proofs.{lemmas.List.get_or_push, lemmas.List.length-map, lemmas.Bool.cases_lt, Common.sym, Common.subst}
 use Rattle.std.proofs.lemmas.List.{map-append, drop-append-le, take-append-le, length_push, get_or_append_left}
 use Rattle.std.proofs.lemmas.List.Elements.{All-tail, All-cons, All-nil, All-push}
-use Rattle.std.proofs.lemmas.{List.get_or_push, List.length-map, Bool.cases_lt}
-use Rattle.signatures.specs.{declared.extensions.Slot.Slot, Extensions.extension_in, Extensions.all_extensions}
-use Rattle.signatures.specs.{Extensions.AreSlots, declared.nodes.Halves.Halves, declared.nodes.Node.Node}
-use Rattle.signatures.specs.{declared.nodes.Shape.Shape, declared.nodes.TheConstants.MOST_WHOLE}
-use Rattle.signatures.specs.{declared.nodes.TheConstants.MOST_LISTS, declared.nodes.Node.TheVariants.Whole}
-use Rattle.signatures.specs.{declared.nodes.Node.TheVariants.Halved, declared.nodes.Shape.TheVariants.Whole as Pairs}
-use Rattle.signatures.specs.{declared.nodes.Shape.TheVariants.Halved as Cut, Lists.pair_cmp, Lists.list_at, Lists.Grow}
-use Rattle.signatures.specs.{Cuts.Fit, Nodes.IsHalved, Nodes.node_at, Nodes.StoresNode, Nodes.list_of_node}
-use Rattle.signatures.specs.{Nodes.list_of_shape, Nodes.lists_to, Nodes.lists_of_nodes, Nodes.Suits, Nodes.AreStored}
-use Rattle.signatures.specs.{Nodes.AreNodes, Hashed.tag_of}
-use Rattle.std.specs.List.Sorted.{IsStrictlySortedBy}
+use Rattle.signatures.specs.declared.extensions.Slot.{Slot}
+use Rattle.signatures.specs.{Extensions.extension_in, Extensions.all_extensions, Extensions.AreSlots, Hashed.tag_of}
+use Rattle.signatures.specs.declared.nodes.{Halves.Halves, Node.Node, Node.TheVariants.Whole, Node.TheVariants.Halved}
+use Rattle.signatures.specs.declared.nodes.Shape.{Shape, TheVariants.Whole as Pairs, TheVariants.Halved as Cut}
+use Rattle.signatures.specs.{declared.nodes.TheConstants.MOST_WHOLE, declared.nodes.TheConstants.MOST_LISTS, Cuts.Fit}
+use Rattle.signatures.specs.{Lists.pair_cmp, Lists.list_at, Lists.Grow, Nodes.Suits, Nodes.AreStored, Nodes.AreNodes}
+use Rattle.signatures.specs.Nodes.{IsHalved, node_at, StoresNode, list_of_node, list_of_shape, lists_to, lists_of_nodes}
 use Rattle.signatures.proofs.{Ascending.ascending_none, Cuts.halves_ascending, Cuts.halves_has}
 use Rattle.buckets.specs.Buckets.{tag_at, IsLast}
 use Rattle.std.proofs.Math.ListN as plain
@@ -75,6 +72,14 @@ module _ (lists : List (List (ℕ × ℕ))) (list : List (ℕ × ℕ)) where
 
   pub Grow-push : Grow lists (lists ++ list ∷ [])
   Grow-push = record { longer = omega (arith, length_push lists list); same = list-old }
+
+-- The relation `Grow` between old lists and new lists holds if each old list is also one of the new lists, with the
+-- same ID. This relation is reflexive and transitive.
+pub Grow-same : (lists : List (List (ℕ × ℕ))) → Grow lists lists
+Grow-same lists = record { longer = omega arith; same = λ k h. refl }
+
+pub Grow-twice : {a b c : List (List (ℕ × ℕ))} → Grow a b → Grow b c → Grow a c
+Grow-twice first second = search rules
 
 pub IsHalved-grow : (lists new : List (List (ℕ × ℕ))) (k : ℕ) (h : Halves) → Grow lists new → k < length lists →
     IsHalved lists k h → IsHalved new k h

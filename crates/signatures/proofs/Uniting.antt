@@ -4,26 +4,65 @@
 -- each of the two lists is divided at the split point of the union into a lower and an upper part. The union of the two
 -- lower parts is the first half of the result, and the union of the two upper parts is the second half. If two lists
 -- have no pair in common, the fingerprint (a hash of 64 bits) of their union is the sum of their fingerprints, modulo
--- 2^64. The last lemmas are about the union cache, which is a hash table of unions that were computed before. Each
--- entry of the cache contains the IDs of two lists and the ID of their union.
-use Rattle.std.proofs.Common.{◌≡◌, ◌⊎◌, ◌↔◌, ℕ, ◌+◌, ◌-◌, ◌<◌, min, max, List, [], ◌++◌, length, sym, subst, refl, inr}
-use Rattle.std.proofs.Common.{arith, rules, length-append, append-nil, ◌∙◌, ◌%◌, ◌^◌, ◌∷◌, Contains, Less, Equal}
-use Rattle.std.proofs.Common.{Greater, ap, inl, sum_by, is_eq, Ordering, map, set, replicate, Result, IfOk, All}
-use Rattle.std.specs.{List.Sorted.IsStrictlySortedBy, Ordering.match_ordering}
-use Rattle.signatures.specs.{declared.nodes.Halves.Halves, declared.nodes.TheConstants.MOST_WHOLE, Lists.pair_cmp}
-use Rattle.signatures.specs.{Lists.list_at, Lists.merged, Lists.Grow, Cuts.IsCutPoint, Cuts.IsAlike, Cuts.IsCut}
-use Rattle.signatures.specs.{Cuts.IsUnder, Cuts.IsOver, Cuts.IsParted, Cuts.Fit, Nodes.IsHalved, Nodes.AreHalvesIn}
-use Rattle.signatures.specs.{Unions.Unites, Unions.IsSplit, Unions.union_entry, Unions.IsNone, Unions.IsUnion}
-use Rattle.signatures.specs.{Unions.AreUnions, Hashed.fingerprint_of, Extensions.ShareNone}
-use Rattle.signatures.specs.{declared.union_cache.Union.Union, declared.union_cache.TheConstants.NO_UNION}
+-- 2^64. The first lemmas are about unions that are computed list by list, and show that a list which is the union of
+-- two stored lists is still their union when more lists are stored. The last lemmas are about the union cache, which is
+-- a hash table of unions that were computed before. Each entry of the cache contains the IDs of two lists and the ID of
+-- their union.
+use Rattle.std.specs.{Set.is_member, Ordering.eq_by_cmp, List.Sorted.IsStrictlySortedBy}
+use Rattle.std.proofs.Common.{filter, Bool, ◌≡◌, ◌⊎◌, ◌↔◌, ℕ, ◌+◌, ◌-◌, ◌<◌, min, max, List, [], ◌++◌, length, sym}
+use Rattle.std.proofs.Common.{subst, refl, inr, arith, rules, length-append, append-nil, ◌∙◌, ◌%◌, ◌^◌, Contains, ap}
+use Rattle.std.proofs.Common.{inl, sum_by, map, set, replicate, Result, IfOk, All}
+use Rattle.std.proofs.lemmas.List.{map-set, Kept.IsStrictlySortedBy-filter, Elements.All-map, Elements.All-replicate}
+use Rattle.std.proofs.lemmas.{List.Filters.sum_by-filter_both, Bool.cases_Bool, Bool.cases_lt}
+use Rattle.signatures.proofs.Ascending.{has_pair, passing_has, is_lacking, merged_ascending, merged_has}
+use Rattle.signatures.{proofs.Ascending.ascending_fewer, proofs.Ascending.ascending_unique, specs.Hashed.fingerprint_of}
+use Rattle.signatures.specs.{Extensions.ShareNone, declared.nodes.Halves.Halves, declared.nodes.TheConstants.MOST_WHOLE}
+use Rattle.signatures.specs.{Lists.pair_cmp, Lists.list_at, Lists.merged, Lists.Grow, Nodes.IsHalved, Nodes.AreHalvesIn}
+use Rattle.signatures.specs.Cuts.{IsCutPoint, IsAlike, IsCut, IsUnder, IsOver, IsParted, Fit}
+use Rattle.signatures.specs.Unions.{Unites, IsSplit, union_entry, IsNone, IsUnion, AreUnions}
+use Rattle.signatures.specs.declared.union_cache.{Union.Union, TheConstants.NO_UNION}
 use Rattle.signatures.proofs.Cuts.{alike_wider, halves_has, parts_has, parts_shorter, HasEnds, IsCut-ends}
 use Rattle.signatures.proofs.Cuts.{HasEnds-union, AreHalvesIn-parts, halves_ascending, parts_both}
-use Rattle.signatures.proofs.Ascending.{merged_has, ascending_fewer, pair_Decides, here, there, ascending_unique}
-use Rattle.signatures.proofs.{Ascending.merged_ascending, Joining.or_swap}
-use Rattle.std.proofs.lemmas.List.Elements.{All-map, All-replicate}
-use Rattle.std.proofs.lemmas.{List.Sums.sum_by-cons, Bool.cases_lt, List.map-set}
 use Rattle.buckets.specs.Hashing.{hash_of}
 use native.Mathlib.Nat.{add-mod}
+
+pub or_swap : {A B C : Type 0} → A ↔ (B ⊎ C) → A ↔ (C ⊎ B)
+or_swap f = search rules
+
+pub same_as : {A B C : Type 0} → A ↔ B → B ↔ C → A ↔ C
+same_as f g = search rules
+
+pub either_same : {N M H E K : Type 0} → N ↔ (M ⊎ E) → M ↔ H → (H ⊎ E) ↔ K → N ↔ K
+either_same new old more = search rules
+
+-- `SomeBelow` holds if P holds for some number less than i.
+abbrev pub SomeBelow : (ℕ → Type 0) → ℕ → Type 0
+SomeBelow P i = (j : ℕ) × (j < i) × P j
+
+-- P holds for some number less than i + 1 if and only if P holds for i or for some number less than i.
+pub up_to_more : (P : ℕ → Type 0) (i : ℕ) → (SomeBelow P i ⊎ P i) ↔ SomeBelow P (i + 1)
+up_to_more P i = search rules
+
+-- Suppose that each list of `old` is also in `new`, with the same ID. Suppose also that the list with the ID i in `new`
+-- is the union of the lists with the IDs j and k in `old`. Then this list is also the union of the lists with the IDs j
+-- and k in `new` (`IsUnion`).
+pub IsUnion-grown : {old new : List (List (ℕ × ℕ))} {j k i : ℕ} → Grow old new → j < length old → k < length old
+    → i < length new → Unites (list_at new i) (list_at old j) (list_at old k) → IsUnion new (j, k) i
+IsUnion-grown {j} {k} grow first second within exactly = record {
+  within = within;
+  first = omega (arith, grow.longer);
+  second = omega (arith, grow.longer);
+  exactly = rw (grow.same j first, grow.same k second) exactly;
+}
+
+-- Suppose that each entry of a list of unions contains the IDs of two stored lists, and the ID of the stored list that
+-- is their union (`AreUnions`). If more lists are stored, each entry is still correct.
+pub AreUnions-grow : {old new : List (List (ℕ × ℕ))} → Grow old new → (unions : List ((ℕ × ℕ) × ℕ))
+    → AreUnions old unions → AreUnions new unions
+AreUnions-grow grow unions are z c =
+    let is = are z c in
+    IsUnion-grown grow is.first is.second (omega (arith, is.within, grow.longer))
+    (rw (grow.same _ is.within) is.exactly)
 
 -- Each pair (x, y) is represented by the number x * 2^32 + y (`pair_value`). Suppose that the numbers for all pairs of
 -- a list are less than c. Then c divides the list into the whole list and the empty list. Suppose instead that the
@@ -142,36 +181,22 @@ placed {bit = bit} {l} {h} {c} place first second l_is h_is = (
 pub unites_merged : (list xs ys : List (ℕ × ℕ)) → list ≡ merged xs ys → Unites list ys xs
 unites_merged list xs ys e = rw e (λ z. or_swap (merged_has z xs ys))
 
-at_order : (P : List (ℕ × ℕ) → Type 0) (o : Ordering) (a b c : List (ℕ × ℕ)) → (o ≡ Less → P a) → (o ≡ Equal → P b)
-    → (o ≡ Greater → P c) → P (match_ordering o a b c)
-at_order P Less a b c f g h = f refl
-at_order P Equal a b c f g h = g refl
-at_order P Greater a b c f g h = h refl
-
--- The hash sum of a list is the sum of the hashes of its pairs. Suppose that two lists have no pair in common. Then the
--- hash sum of the merge of the two lists is the sum of their hash sums.
-sum_cons : (x : ℕ × ℕ) (xs : List (ℕ × ℕ)) → ((ys : List (ℕ × ℕ)) → ShareNone xs ys →
-    sum_by hash_of (merged xs ys) ≡ sum_by hash_of xs + sum_by hash_of ys) → (ys : List (ℕ × ℕ))
-    → ShareNone (x ∷ xs) ys → sum_by hash_of (merged (x ∷ xs) ys) ≡ sum_by hash_of (x ∷ xs) + sum_by hash_of ys
-sum_cons x xs h [] apart = omega arith
-sum_cons x xs h (y ∷ ys) apart =
-    let first = sum_by-cons hash_of x in
-    let second = sum_by-cons hash_of y in
-    at_order (λ l. sum_by hash_of l ≡ sum_by hash_of (x ∷ xs) + sum_by hash_of (y ∷ ys)) (pair_cmp x y) _ _ _
-    (λ e. omega (arith, first xs, first (merged xs (y ∷ ys)), h (y ∷ ys) (λ z d. apart z (there x xs z d))))
-    (λ e. absurd (apart y (subst (Contains (x ∷ xs)) ((pair_Decides x y).0 (ap is_eq e)) (here x xs)) (here y ys)))
-    (λ e.
-    omega (arith, second ys, second (merged (x ∷ xs) ys), sum_cons x xs h ys (λ z d e. apart z d (there y ys z e))))
-
-sum_merged : (xs ys : List (ℕ × ℕ)) → ShareNone xs ys →
-    sum_by hash_of (merged xs ys) ≡ sum_by hash_of xs + sum_by hash_of ys
-sum_merged [] ys apart = omega arith
-sum_merged (x ∷ xs) ys apart = sum_cons x xs (sum_merged xs) ys apart
-
-pub fingerprint_merged : (xs ys : List (ℕ × ℕ)) → ShareNone xs ys
-    → (fingerprint_of xs + fingerprint_of ys) % 2 ^ 64 ≡ fingerprint_of (merged xs ys)
-fingerprint_merged xs ys apart =
-    sym (add-mod (sum_by hash_of xs) (sum_by hash_of ys) (2 ^ 64)) ∙ ap (λ n. n % 2 ^ 64) (sym (sum_merged xs ys apart))
+-- The fingerprint of a list (a hash of 64 bits) is the sum of the hashes of its pairs, modulo 2^64. Suppose that two
+-- lists are in strictly ascending order, and that they have no pair in common. Then the fingerprint of the merge of the
+-- two lists is the sum of their fingerprints, modulo 2^64.
+pub fingerprint_merged : (xs ys : List (ℕ × ℕ)) → IsStrictlySortedBy pair_cmp xs → IsStrictlySortedBy pair_cmp ys
+    → ShareNone xs ys → (fingerprint_of xs + fingerprint_of ys) % 2 ^ 64 ≡ fingerprint_of (merged xs ys)
+fingerprint_merged xs ys first second apart =
+    let all = merged xs ys in
+    let inside = is_member (eq_by_cmp pair_cmp) xs in
+    let outside = is_lacking xs in
+    let sorted = λ (p : ℕ × ℕ → Bool). IsStrictlySortedBy-filter pair_cmp p all (merged_ascending xs ys first second) in
+    let old : filter inside all ≡ xs = ascending_unique _ xs (sorted inside) first (λ z.
+    grind (arith, passing_has inside all z, merged_has z xs ys, has_pair xs z)) in
+    let new : filter outside all ≡ ys = ascending_unique _ ys (sorted outside) second (λ z.
+    grind (arith, passing_has outside all z, merged_has z xs ys, has_pair xs z, apart z, cases_Bool (inside z))) in
+    sym (add-mod (sum_by hash_of xs) (sum_by hash_of ys) (2 ^ 64))
+    ∙ ap (λ n. n % 2 ^ 64) (rw (old, new) at (sum_by-filter_both inside outside (λ z. refl) hash_of all))
 
 -- Suppose that a list contains exactly the pairs of two other lists, and that all three lists are in strictly ascending
 -- order. Then this list is the merge of the two other lists.

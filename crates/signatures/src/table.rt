@@ -131,6 +131,7 @@ fn sum_of(trie: &Trie, list: Extension<'_>) -> u64
     requires { IsExtension trie.now (parts_of list) }
     ensures { result ≡ fingerprint_of (extended trie.now (parts_of list.entry)) }
 {
+    trie.invariants();
     trie.sum(list.base).wrapping_add(fingerprint(list.extra))
 }
 

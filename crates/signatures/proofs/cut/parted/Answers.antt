@@ -1,7 +1,6 @@
 use Rattle.std.proofs.Common.{ltb, rules}
 use Rattle.std.proofs.lemmas.List.Sorted.{IsPartitionPoint-from_clause, IsPartitionedBy-ltb}
-use Rattle.signatures.specs.Cuts.{pair_value}
-use Rattle.signatures.proofs.Cuts.{ascending_keys, parted_is}
+use Rattle.signatures.{specs.Cuts.pair_value, proofs.Cuts.ascending_keys, proofs.Cuts.parted_is}
 use Rattle.signatures.proofs.cut.parted.Goals as goal
 
 pub returns : goal.returns

@@ -1,5 +1,4 @@
-use Rattle.std.proofs.Common.{rules}
-use Rattle.std.proofs.lemmas.Slice.Eq.{slice_eq-Decides}
+use Rattle.std.proofs.{Common.rules, lemmas.Slice.Eq.slice_eq-Decides}
 use Rattle.signatures.proofs.hashes.are_same.Goals as goal
 
 pub returns : goal.returns

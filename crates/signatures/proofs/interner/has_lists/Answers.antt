@@ -1,5 +1,4 @@
-use Rattle.std.proofs.Common.{rules, arith, below_more}
-use Rattle.std.proofs.lemmas.List.{get_or_default}
+use Rattle.std.proofs.{Common.rules, Common.arith, Common.below_more, lemmas.List.get_or_default}
 use Rattle.signatures.proofs.interner.has_lists.Goals as goal
 
 pub loop-j-preserved-then-j-k : goal.loop-j-preserved-then-j-k

@@ -1,5 +1,4 @@
-use Rattle.std.proofs.Common.{rules, refl, arith, below_more}
-use Rattle.std.proofs.lemmas.List.{get_or_default}
+use Rattle.std.proofs.{Common.rules, Common.refl, Common.arith, Common.below_more, lemmas.List.get_or_default}
 use Rattle.signatures.proofs.interner.has_pairs.Goals as goal
 
 pub loop-pair-preserved : goal.loop-pair-preserved

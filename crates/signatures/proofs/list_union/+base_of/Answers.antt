@@ -1,7 +1,7 @@
 use Rattle.std.proofs.Common.{rules, ◌∙◌, ◌++◌, ◌↔◌, ◌<◌, length, All, take-append-drop, Contains}
 use Rattle.std.proofs.lemmas.Result.{IfOk-weaker}
 use Rattle.signatures.specs.{Lists.list_at, Extensions.extension_at, Extensions.HasBase}
-use Rattle.signatures.proofs.Joining.{Grow-twice, same_as}
+use Rattle.signatures.proofs.{Storing.Grow-twice, Uniting.same_as}
 use Rattle.signatures.proofs.ExtendedLists.{IsExtension-grow, one_of_both, joined_halves}
 use Rattle.signatures.proofs.list_union.+base_of.Goals as goal
 

@@ -1,5 +1,4 @@
-use Rattle.std.proofs.Common.{◌≡◌, length, arith, Some}
-use Rattle.std.proofs.lemmas.Bool.{both_ways}
+use Rattle.std.proofs.{Common.◌≡◌, Common.length, Common.arith, Common.Some, lemmas.Bool.both_ways}
 use Rattle.signatures.specs.Extensions.{parts_of}
 use Rattle.signatures.proofs.{ExtendedLists.extra_skip, ExtendedLists.extra_more, Cuts.halves_has}
 use Rattle.signatures.proofs.list_union.gather.Goals as goal

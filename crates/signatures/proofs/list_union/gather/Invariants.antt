@@ -1,5 +1,5 @@
 use Rattle.std.proofs.Common.{◌⊎◌, ◌↔◌, ℕ, Contains, Some, ◌≡◌}
-use Rattle.signatures.proofs.{Joining.SomeBelow, ExtendedLists.IsExtra}
+use Rattle.signatures.proofs.{Uniting.SomeBelow, ExtendedLists.IsExtra}
 use Rattle.signatures.proofs.list_union.gather.Given as goal
 
 abbrev pub invariant-loop-k : goal.invariant-loop-k

@@ -1,9 +1,8 @@
-use Rattle.std.proofs.Common.{rules, ◌≡◌, length, arith, Some}
+use Rattle.std.proofs.{Common.rules, Common.◌≡◌, Common.length, Common.arith, Common.Some, lemmas.Bool.both_ways}
 use Rattle.std.specs.List.Sorted.{IsStrictlySortedBy}
-use Rattle.std.proofs.lemmas.Bool.{both_ways}
 use Rattle.signatures.specs.{Lists.pair_cmp, Lists.merged, Extensions.parts_of}
-use Rattle.signatures.proofs.ExtendedLists.{extra_skip, extra_more}
-use Rattle.signatures.proofs.{Joining.or_swap, Ascending.merged_has, Ascending.merged_ascending}
+use Rattle.signatures.proofs.{ExtendedLists.extra_skip, ExtendedLists.extra_more, Uniting.or_swap}
+use Rattle.signatures.proofs.Ascending.{merged_has, merged_ascending}
 use Rattle.signatures.proofs.list_union.merge.Goals as goal
 
 pub loop-k-preserved-then-not-is_own : goal.loop-k-preserved-then-not-is_own

@@ -1,7 +1,6 @@
 use Rattle.std.proofs.Common.{◌⊎◌, ◌↔◌, ℕ, Contains, Some, ◌≡◌}
 use Rattle.std.specs.List.Sorted.{IsStrictlySortedBy}
-use Rattle.signatures.specs.Lists.{pair_cmp}
-use Rattle.signatures.proofs.{Joining.SomeBelow, ExtendedLists.IsExtra}
+use Rattle.signatures.{specs.Lists.pair_cmp, proofs.Uniting.SomeBelow, proofs.ExtendedLists.IsExtra}
 use Rattle.signatures.proofs.list_union.merge.Given as goal
 
 abbrev pub invariant-loop-k : goal.invariant-loop-k

@@ -1,8 +1,8 @@
 use Rattle.std.proofs.Common.{◌≡◌, rules, filter}
 use Rattle.std.proofs.lemmas.{List.Kept.IsStrictlySortedBy-filter, Fn.filter_same}
-use Rattle.signatures.proofs.{Ascending.has_pair, list_union.remove_pairs_of.Goals.After-retain}
-use Rattle.signatures.proofs.ExtendedLists.{is_lacking, lack_apart, lack_same}
-use Rattle.signatures.specs.Lists.{list_at}
+use Rattle.signatures.proofs.Ascending.{has_pair, is_lacking}
+use Rattle.signatures.{specs.Lists.list_at, proofs.ExtendedLists.lack_apart, proofs.ExtendedLists.lack_same}
+use Rattle.signatures.proofs.list_union.remove_pairs_of.Goals.{After-retain}
 use Rattle.signatures.proofs.list_union.remove_pairs_of.Goals as goal
 
 left : (c : After-retain) → c.retain.new.self.items ≡ filter (is_lacking (list_at c.args.trie.now c.args.base))

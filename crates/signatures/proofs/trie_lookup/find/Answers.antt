@@ -1,7 +1,5 @@
-use Rattle.std.proofs.Common.{rules, arith}
-use Rattle.std.proofs.lemmas.Bool.{both_ways}
-use Rattle.signatures.specs.Nodes.{list_of_shape}
-use Rattle.signatures.proofs.Storing.{IsReached-last, IsReached-before}
+use Rattle.std.proofs.{Common.rules, Common.arith, lemmas.Bool.both_ways}
+use Rattle.signatures.{specs.Nodes.list_of_shape, proofs.Storing.IsReached-last, proofs.Storing.IsReached-before}
 use Rattle.signatures.proofs.trie_lookup.find.Goals as goal
 
 pub loop-r-init : goal.loop-r-init

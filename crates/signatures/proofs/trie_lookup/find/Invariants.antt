@@ -1,5 +1,4 @@
-use Rattle.signatures.specs.Nodes.{list_of_shape}
-use Rattle.signatures.proofs.Storing.{IsReached}
+use Rattle.signatures.{specs.Nodes.list_of_shape, proofs.Storing.IsReached}
 use Rattle.signatures.proofs.trie_lookup.find.Given as goal
 
 abbrev pub invariant-loop-r : goal.invariant-loop-r

@@ -1,5 +1,4 @@
-use Rattle.std.proofs.Common.{rules}
-use Rattle.std.proofs.lemmas.List.Elements.{All-contains}
+use Rattle.std.proofs.{Common.rules, lemmas.List.Elements.All-contains}
 use Rattle.signatures.proofs.Uniting.{none_stored}
 use Rattle.signatures.proofs.union_cache.widen.Goals as goal
 

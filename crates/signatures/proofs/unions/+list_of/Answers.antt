@@ -1,7 +1,7 @@
 use Rattle.std.proofs.Common.{rules, ◌∙◌, ℕ, arith}
-use Rattle.signatures.specs.Cuts.{IsCut}
-use Rattle.signatures.proofs.{Cuts.parts_both, Cuts.parts_shorter, Cuts.first_before_last, Cuts.ends_pairs}
-use Rattle.signatures.proofs.{Cuts.IsCut-ends, Cuts.AreHalvesIn-parts, unions.+list_of.Goals.After-parted}
+use Rattle.signatures.{specs.Cuts.IsCut, proofs.Cuts.IsCut-ends}
+use Rattle.signatures.proofs.Cuts.{AreHalvesIn-parts, parts_both, parts_shorter, first_before_last, ends_pairs}
+use Rattle.signatures.proofs.unions.+list_of.Goals.{After-parted}
 use Rattle.signatures.proofs.unions.+list_of.Goals as goal
 
 pub cut-cut-requires : goal.cut-cut-requires

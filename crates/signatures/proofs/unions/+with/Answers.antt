@@ -2,7 +2,7 @@ use Rattle.std.proofs.Common.{rules, ◌≡◌, ◌∙◌, ℕ, [], arith}
 use Rattle.std.proofs.lemmas.Result.{IfOk-weaker}
 use Rattle.signatures.specs.Lists.{list_at, merged}
 use Rattle.signatures.proofs.Uniting.{AreUnited, AreUnited-parts, parted_grown, parts_fewer, halved_long, unites_merged}
-use Rattle.signatures.proofs.{Uniting.merged_fit, Joining.Grow-same, Cuts.parts_both, Ascending.merged_ascending}
+use Rattle.signatures.proofs.{Uniting.merged_fit, Storing.Grow-same, Cuts.parts_both, Ascending.merged_ascending}
 use Rattle.signatures.proofs.unions.+with.Goals.{In_ok-above-in-Halved, After-deref}
 use Rattle.signatures.proofs.unions.+with.Goals as goal
 
@@ -46,7 +46,8 @@ returns-in_ok-above-in-Halved-clause-exactly t c =
     IfOk-weaker c.intern.result _ _ (λ i e. rw e both.1) c.intern.ensures.list
 
 -- The list that is interned is the merge of two lists: the list with the ID `k`, and the list `pairs`.
-both_are : (t : ℕ) (c : After-deref t) → c.deref.result.now ≡ merged (list_at c.args.trie.now c.args.k) c.args.pairs.now
+both_are : (t : ℕ) (c : After-deref t) →
+    c.deref.result.now ≡ merged (list_at c.args.trie.now c.args.k) c.args.pairs.now
 both_are t c = search rules
 
 pub list_of-requires-in-Whole : goal.list_of-requires-in-Whole

@@ -1,6 +1,5 @@
 use Rattle.std.proofs.Common.{rules}
-use Rattle.signatures.specs.Lists.{list_at}
-use Rattle.signatures.proofs.Cuts.{all_under, all_over}
+use Rattle.signatures.{specs.Lists.list_at, proofs.Cuts.all_under, proofs.Cuts.all_over}
 use Rattle.signatures.proofs.Uniting.{halved_cut, IsParted-under, IsParted-over}
 use Rattle.signatures.proofs.unions.split.Goals as goal
 

@@ -1,6 +1,5 @@
 use Rattle.std.proofs.Common.{arith}
-use Rattle.signatures.specs.Extensions.{parts_of}
-use Rattle.signatures.proofs.ExtendedLists.{has_either}
+use Rattle.signatures.{specs.Extensions.parts_of, proofs.ExtendedLists.has_either}
 use Rattle.signatures.proofs.interner.Interner.has.Goals as goal
 
 pub returns-then-has : goal.returns-then-has

@@ -1,6 +1,5 @@
 use Rattle.std.proofs.Common.{inl, inr, ⊎_elim}
-use Rattle.signatures.specs.Extensions.{parts_of}
-use Rattle.signatures.proofs.{Ascending.merged_has, ExtendedLists.has_either}
+use Rattle.signatures.{specs.Extensions.parts_of, proofs.Ascending.merged_has, proofs.ExtendedLists.has_either}
 use Rattle.signatures.proofs.interner.Interner.has_list.Goals as goal
 
 pub returns-then-list-other : goal.returns-then-list-other

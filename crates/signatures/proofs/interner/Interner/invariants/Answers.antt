@@ -1,6 +1,5 @@
 use Rattle.std.proofs.Common.{subst, arith}
-use Rattle.signatures.specs.Lists.{AreLists}
-use Rattle.signatures.proofs.ExtendedLists.{AreLists-extended}
+use Rattle.signatures.{specs.Lists.AreLists, proofs.ExtendedLists.AreLists-extended}
 use Rattle.signatures.proofs.interner.Interner.invariants.Goals as goal
 
 pub returns : goal.returns

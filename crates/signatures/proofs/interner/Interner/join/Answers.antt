@@ -1,8 +1,7 @@
 use Rattle.std.proofs.Common.{◌∙◌, ◌⊎◌, ◌↔◌, Contains, ap, sym, subst}
 use Rattle.std.proofs.lemmas.Result.{IfOk-weaker}
-use Rattle.signatures.specs.Lists.{list_at, merged}
-use Rattle.signatures.proofs.ExtendedLists.{AreExtended-grow, Grow-lists}
-use Rattle.signatures.proofs.{Ascending.merged_has, Joining.Grow-twice, Joining.same_as}
+use Rattle.signatures.{specs.Lists.list_at, specs.Lists.merged, proofs.Storing.Grow-twice, proofs.Uniting.same_as}
+use Rattle.signatures.proofs.{ExtendedLists.AreExtended-grow, ExtendedLists.Grow-lists, Ascending.merged_has}
 use Rattle.signatures.proofs.interner.Interner.join.Goals as goal
 
 -- Suppose that the last of the lists with an ID in `lists` contains all pairs of the other lists, and all pairs in

@@ -1,7 +1,7 @@
 use Rattle.std.proofs.Common.{rules, ◌≡◌, ◌∙◌, ◌<◌, length, ap, sym, arith}
 use Rattle.std.proofs.lemmas.List.{get_or_read}
-use Rattle.signatures.specs.Nodes.{node_at, lists_of_nodes, StoresNode}
-use Rattle.signatures.specs.{declared.nodes.Node.Node, declared.nodes.Node.TheVariants.Whole}
+use Rattle.signatures.specs.Nodes.{lists_of_nodes, StoresNode}
+use Rattle.signatures.specs.{declared.nodes.Node.Node, declared.nodes.Node.TheVariants.Whole, Nodes.node_at}
 use Rattle.signatures.proofs.Storing.{length-lists, list_whole, length-part}
 use Rattle.signatures.proofs.nodes.Nodes.shape.Goals.{After-index}
 use Rattle.signatures.proofs.nodes.Nodes.shape.Goals as goal

@@ -3,7 +3,7 @@ use Rattle.std.proofs.lemmas.{Bool.both_ways, List.get_or-map, List.length-map}
 use Rattle.signatures.specs.Lists.{list_at}
 use Rattle.signatures.specs.Extensions.{parts_of, extended, extended_lists, IsExtension}
 use Rattle.signatures.proofs.ExtendedLists.{tags_size, extended-grow, IsExtension-grow}
-use Rattle.signatures.proofs.{Joining.Grow-twice, Storing.IsReached-last, Storing.IsReached-before}
+use Rattle.signatures.proofs.Storing.{Grow-twice, IsReached-last, IsReached-before}
 use Rattle.signatures.proofs.table.Table.find.Goals.{After-of}
 use Rattle.signatures.proofs.table.Table.find.Goals as goal
 

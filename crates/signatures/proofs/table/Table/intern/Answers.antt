@@ -1,8 +1,9 @@
 use Rattle.std.proofs.Common.{rules, ◌≡◌, ◌∙◌, ◌++◌, ◌∷◌, [], ap, refl}
 use Rattle.signatures.specs.{Hashed.mixed, Extensions.parts_of, Extensions.AreExtended}
-use Rattle.signatures.proofs.{Joining.Grow-same, Storing.Grow-push, table.Table.intern.Goals.In_ok-id-2}
+use Rattle.signatures.proofs.Storing.{Grow-same, Grow-push}
 use Rattle.signatures.proofs.ExtendedLists.{TableGrows-from, lists-grow, AreExtended-push, extended_some}
 use Rattle.std.proofs.lemmas.List.{map-append}
+use Rattle.signatures.proofs.table.Table.intern.Goals.{In_ok-id-2}
 use Rattle.signatures.proofs.table.Table.intern.Goals as goal
 
 pub returns-in_err-id-clause-keeps : goal.returns-in_err-id-clause-keeps
@@ -31,8 +32,8 @@ not_both c = search rules
 
 -- Suppose that the search finds no stored list that is equal to the given list. If the given list is then appended, all
 -- lists of the table are stored correctly, and no two of them are equal (`AreExtended`).
-more : (c : In_ok-id-2) → AreExtended c.args.bases.now.trie (c.args.self.now.extensions ++ parts_of c.args.list ∷ [])
-    (c.args.self.now.buckets.tags ++ c.mix-tag.result ∷ [])
+more : (c : In_ok-id-2) → AreExtended c.args.bases.now.trie
+    (c.args.self.now.extensions ++ parts_of c.args.list ∷ []) (c.args.self.now.buckets.tags ++ c.mix-tag.result ∷ [])
 more c =
     let known = c.invariants.ensures in
     AreExtended-push c.requires.extensions (parts_of c.args.list) c.mix-tag.result c.requires.list

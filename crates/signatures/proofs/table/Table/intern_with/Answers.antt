@@ -1,8 +1,6 @@
-use Rattle.std.proofs.Common.{arith, ◌∙◌, refl}
-use Rattle.std.proofs.lemmas.{Grind.common_steps, Result.IfOk-weaker}
+use Rattle.std.proofs.{Common.arith, Common.◌∙◌, Common.refl, lemmas.Grind.common_steps, lemmas.Result.IfOk-weaker}
 use Rattle.signatures.proofs.ExtendedLists.{Grow-lists, AreExtended-grow, TableGrows-from, whole_is}
-use Rattle.signatures.proofs.{Joining.Grow-same, Ascending.merged_nil}
-use Rattle.signatures.specs.Lists.{list_at}
+use Rattle.signatures.{specs.Lists.list_at, proofs.Storing.Grow-same, proofs.Ascending.merged_nil}
 use Rattle.signatures.proofs.table.Table.intern_with.Goals as goal
 
 pub returns-in_err-base-clause-keeps : goal.returns-in_err-base-clause-keeps

@@ -1,6 +1,5 @@
-use Rattle.std.proofs.Common.{arith}
-use Rattle.std.proofs.lemmas.Grind.{common_steps}
-use Rattle.signatures.proofs.{Joining.AreUnions-grow, Storing.Grow-push}
+use Rattle.std.proofs.{Common.arith, lemmas.Grind.common_steps}
+use Rattle.signatures.proofs.{Uniting.AreUnions-grow, Storing.Grow-push}
 use Rattle.signatures.proofs.trie.Trie.add_list.Goals as goal
 
 pub invariant_of-self-in_err-id : goal.invariant_of-self-in_err-id

@@ -1,7 +1,5 @@
-use Rattle.std.proofs.Common.{subst}
-use Rattle.std.proofs.lemmas.Option.{IfSome_then}
-use Rattle.signatures.specs.Unions.{IsUnion}
-use Rattle.signatures.proofs.Uniting.{IsUnion-in_order}
+use Rattle.std.proofs.{Common.subst, lemmas.Option.IfSome_then}
+use Rattle.signatures.{specs.Unions.IsUnion, proofs.Uniting.IsUnion-in_order}
 use Rattle.signatures.proofs.trie.Trie.cached_union.Goals as goal
 
 pub returns : goal.returns

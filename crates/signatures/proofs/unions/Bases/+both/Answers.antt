@@ -1,8 +1,7 @@
-use Rattle.std.proofs.Common.{rules, ℕ, arith}
-use Rattle.std.proofs.lemmas.Result.{IfOk-weaker}
+use Rattle.std.proofs.{Common.rules, Common.ℕ, Common.arith, lemmas.Result.IfOk-weaker}
 use Rattle.signatures.specs.{Lists.list_at, Lists.Grow, Unions.IsUnion}
 use Rattle.signatures.proofs.Uniting.{AreUnited, AreUnited-parts, parted_grown, parts_fewer, halved_long, IsUnion-swap}
-use Rattle.signatures.proofs.Joining.{Grow-twice, IsUnion-grown}
+use Rattle.signatures.proofs.{Uniting.IsUnion-grown, Storing.Grow-twice}
 use Rattle.signatures.proofs.unions.Bases.+both.Goals.{In_ok-above, In_ok-i}
 use Rattle.signatures.proofs.unions.Bases.+both.Goals as goal
 

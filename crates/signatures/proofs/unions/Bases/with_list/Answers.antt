@@ -1,7 +1,6 @@
-use Rattle.std.proofs.Common.{rules, ◌≡◌, [], sym}
-use Rattle.std.proofs.lemmas.Result.{IfOk-weaker}
-use Rattle.signatures.specs.Lists.{list_at}
-use Rattle.signatures.proofs.{Joining.IsUnion-grown, Uniting.if_both, unions.Bases.with_list.Goals.After-deref}
+use Rattle.std.proofs.{Common.rules, Common.◌≡◌, Common.[], Common.sym, lemmas.Result.IfOk-weaker}
+use Rattle.signatures.{specs.Lists.list_at, proofs.Uniting.IsUnion-grown, proofs.Uniting.if_both}
+use Rattle.signatures.proofs.unions.Bases.with_list.Goals.{After-deref}
 use Rattle.signatures.proofs.unions.Bases.with_list.Goals as goal
 
 -- Before the call of `with`, the vector `held` contains the pairs of the list with the ID `few`.
