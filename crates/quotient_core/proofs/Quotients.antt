@@ -281,12 +281,8 @@ module _ {rel : Relation} {g : Grouped} {n : Numbering} (is : IsNumbering rel g 
     -- given system. Then `es` satisfies the limits on the size of a system (`InRange`).
     pub quotient_in_range : length es ≤ length g.places → InRange (length g.labels) 0 (length n.classes.items) es
     quotient_in_range few = let some = below g.first ([], refl) in
-        record {
-          first_below = omega (arith, some);
-          few_states = omega (arith, is.few, lts.in_range.few_states);
-          few_transitions = omega (arith, few, lts.in_range.few_transitions);
-          each = λ k d l. (each_is (get_or es k d) (Contains-get_or es k d l)).0;
-        }
+        let each = λ (k : ℕ) (d : Triple) (l : k < length es). (each_is (get_or es k d) (Contains-get_or es k d l)).0 in
+        search (rules, some, each, is.few, lts.in_range.few_states, lts.in_range.few_transitions)
 
     -- A quotient transition is a triple (source, label ID, target) between quotient states that comes from a transition
     -- of the system, and that the quotient does not leave out. Let the list `es` contain exactly the quotient

@@ -24,9 +24,6 @@ pub visits_then : {old mid new : Counts} {first second most : ℕ} → Costs old
     first + second ≤ most → Costs old new 0 0 most
 visits_then before after fits = search rules
 
-pub visits_at_most : {old new : Counts} {few most : ℕ} → Costs old new 0 0 few → few ≤ most → Costs old new 0 0 most
-visits_at_most h low = search rules
-
 -- The meter counts visits, which are reads of transitions. Suppose that, at some time, the meter could count `all` more
 -- visits without overflow. Suppose also that the meter has counted at most `few` visits since then, and that `few +
 -- row` is at most `all`. Then the meter can still count `row` more visits without overflow.

@@ -74,16 +74,13 @@ module _ {g : Grouped} {n : Numbering} where
         | inl d ↦ let f = (h.exactly x).0 d in (f.0, grind (arith, parts f.0, f.1), f.2)
         | inr d ↦ let f = (own.exactly x).0 d in (f.0, grind (arith, parts f.0, f.1), f.2)
       ],
-      λ f. elim (cases f.0 f.1) [
+      λ f. let which : IsTrue (q f.0) ⊎ IsTrue (r f.0) = grind (arith, parts f.0, f.1) in elim which [
         | inl d ↦ Contains-append_left xs ys x ((h.exactly x).1 (f.0, d, f.2))
         | inr d ↦ Contains-append_right xs ys x ((own.exactly x).1 (f.0, d, f.2))
       ],
     );
     few = omega (arith, length-append xs ys, rows_part p q r parts g.places, h.few, own.few);
   }
-    where
-      cases : (s : ℕ) → IsTrue (p s) → IsTrue (q s) ⊎ IsTrue (r s)
-      cases s h = grind (arith, parts s)
 
   -- A quotient transition is a transition between quotient states. The list `shown_by g n s` contains exactly the
   -- quotient transitions of the state s.

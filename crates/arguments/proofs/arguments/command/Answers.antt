@@ -17,21 +17,17 @@ simple = refl
 free : is_simple_and_free program_app ≡ true
 free = refl
 
--- Suppose that `clap` accepts the arguments, and that f is an error in making a job (a subcommand with its options)
--- from the values that `clap` finds. Suppose also that, if `clap` has found all mandatory arguments, f reports an
--- unknown relation or a failed allocation. Then the contract of `command` allows the error f.
-taken_fault : (words : List Text) (f : WordFault) → AreTaken words → IsFaultIn (subcommand_of program_app words) f →
-    (IsWholeIn (subcommand_of program_app words) → IsFaultOfAJob f) → IsFaultOf words f
-taken_fault words (fault.Relation named) taken is asked = (taken, is)
-taken_fault words (fault.Help text) taken is asked = absurd is
-taken_fault words (fault.Usage text) taken is asked = inl (taken, asked)
-taken_fault words fault.Memory taken is asked = tt
-
+-- Suppose that `clap` accepts the arguments, and that r may be an error in making a job (a subcommand with its options)
+-- from the values that `clap` finds. Suppose also that, if `clap` has found all mandatory arguments, such an error
+-- reports an unknown relation or a failed allocation. Then the contract of `command` allows this error.
 taken_error : (words : List Text) (r : Result Job WordFault) → AreTaken words →
     IfErr r (IsFaultIn (subcommand_of program_app words)) →
     (IsWholeIn (subcommand_of program_app words) → IfErr r IsFaultOfAJob) → IfErr r (IsFaultOf words)
 taken_error words (Ok job) taken is asked = tt
-taken_error words (Err f) taken is asked = taken_fault words f taken is asked
+taken_error words (Err (fault.Relation named)) taken is asked = (taken, is)
+taken_error words (Err (fault.Help text)) taken is asked = absurd is
+taken_error words (Err (fault.Usage text)) taken is asked = inl (taken, asked)
+taken_error words (Err fault.Memory) taken is asked = tt
 
 -- The contract of `clap` says that an error kind is in a list (`IsAmong`). The contract of `command` says that some
 -- element of a list has a property (`Any`). The lemma connects these two statements: if `kind` is in the list `kinds`

@@ -1,7 +1,7 @@
 use Rattle.quotient_core.proofs.triples.read_class.Goals as goal
-use Rattle.std.proofs.Common.{◌∙◌, sym, arith}
+use Rattle.std.proofs.Common.{◌∙◌, sym, arith, rules}
 use Rattle.quotient_core.proofs.Showing.{read_few, read_all, read_over, fits, read_visits, read_next, read_enough}
-use Rattle.quotient_core.proofs.Reaching.{visits_at_most, room_after}
+use Rattle.quotient_core.proofs.Reaching.{room_after}
 
 pub loop-k-preserved-then-not-is_reached : goal.loop-k-preserved-then-not-is_reached
 loop-k-preserved-then-not-is_reached g c = read_over c.loop-k.invariant c.last_first.ensures.below
@@ -32,4 +32,4 @@ pub returns-clause-class : goal.returns-clause-class
 returns-clause-class g c = read_all c.loop-k.invariant (omega (arith, c.loop-k-test.false))
 
 pub returns-clause-visits : goal.returns-clause-visits
-returns-clause-visits g c = visits_at_most c.loop-k.invariant.visits (read_few c.loop-k.invariant c.loop-k.k)
+returns-clause-visits g c = search (rules, c.loop-k.invariant.visits, read_few c.loop-k.invariant c.loop-k.k)

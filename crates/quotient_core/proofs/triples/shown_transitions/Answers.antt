@@ -3,7 +3,7 @@ use Rattle.std.proofs.lemmas.Bool.Decides.{nat_tests}
 use Rattle.quotient_core.specs.Triples.{HasShown, number_of, is_member, is_reached}
 use Rattle.quotient_core.proofs.{triples.shown_transitions.Given.Over, triples.shown_transitions.Goals.After-edges}
 use Rattle.quotient_core.proofs.Showing.{is_below, below_next, shown_with, shown_tidy, tidied_once, once_next, rows_fit}
-use Rattle.quotient_core.proofs.Reaching.{visits_then, visits_at_most, room_after, rows_few, rows_part}
+use Rattle.quotient_core.proofs.Reaching.{visits_then, room_after, rows_few, rows_part}
 use Rattle.quotient_core.proofs.triples.shown_transitions.Goals as goal
 
 -- A quotient transition is a transition between quotient states. Suppose that the list of the quotient transitions of a
@@ -16,20 +16,16 @@ tidy g c = let short : length c.dedup.new.self.items ≤ length c.read_class.new
     shown_tidy c.in_ok-read_class.ensures.class c.sort_unstable.ensures.permutation c.dedup.ensures.filtered short
 
 pub read_class-requires-clause-room : goal.read_class-requires-clause-room
-read_class-requires-clause-room g c = room_after c.requires.room c.loop-number.invariant.visits
-    (rows_fit c.args.l.now c.args.numbering.now c.loop-number.number)
+read_class-requires-clause-room g c = search (rules, room_after, rows_fit)
 
 pub returns-in_err-read_class-clause-visits : goal.returns-in_err-read_class-clause-visits
-returns-in_err-read_class-clause-visits g c = visits_then c.loop-number.invariant.visits c.read_class.ensures.visits
-    (rows_fit c.args.l.now c.args.numbering.now c.loop-number.number)
+returns-in_err-read_class-clause-visits g c = search (rules, visits_then, rows_fit)
 
 pub returns-in_err-add_class-clause-visits : goal.returns-in_err-add_class-clause-visits
-returns-in_err-add_class-clause-visits g c = visits_then c.loop-number.invariant.visits c.read_class.ensures.visits
-    (rows_fit c.args.l.now c.args.numbering.now c.loop-number.number)
+returns-in_err-add_class-clause-visits g c = search (rules, visits_then, rows_fit)
 
 pub returns-clause-visits : goal.returns-clause-visits
-returns-clause-visits g c = visits_at_most c.loop-number.invariant.visits
-    (rows_few (is_below c.args.numbering.now c.loop-number.number) c.args.l.now.places)
+returns-clause-visits g c = search (rules, c.loop-number.invariant.visits, rows_few)
 
 pub add_class-requires : goal.add_class-requires
 add_class-requires g c = let own = tidy g (goal.at.add_class-requires g c).After-edges in
