@@ -1,5 +1,4 @@
-use Rattle.std.proofs.Common.{rules}
-use Rattle.std.proofs.lemmas.List.{length-map, get_or_read}
+use Rattle.std.proofs.{Common.rules, lemmas.List.length-map, lemmas.List.get_or_read}
 use Rattle.buckets.proofs.Entries.{tag_is, before_is}
 use Rattle.buckets.proofs.Buckets.before.Goals as goal
 

@@ -1,7 +1,6 @@
 use Rattle.std.proofs.Common.{◌≡◌, ◌∙◌, ◌<◌, length, ap, arith}
 use Rattle.std.proofs.lemmas.List.{get_or_read}
-use Rattle.buckets.specs.Chains.{bucket_of_tag}
-use Rattle.buckets.proofs.Entries.{last_is}
+use Rattle.buckets.{specs.Chains.bucket_of_tag, proofs.Entries.last_is}
 use Rattle.buckets.proofs.Buckets.last.Goals as goal
 
 pub returns : goal.returns

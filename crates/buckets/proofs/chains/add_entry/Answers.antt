@@ -1,5 +1,4 @@
-use Rattle.std.proofs.Common.{arith}
-use Rattle.std.proofs.lemmas.Grind.{common_steps}
+use Rattle.std.proofs.{Common.arith, lemmas.Grind.common_steps}
 use Rattle.buckets.proofs.Entries.{AreBuckets-push}
 use Rattle.buckets.proofs.chains.add_entry.Goals as goal
 

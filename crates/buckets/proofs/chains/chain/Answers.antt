@@ -1,5 +1,4 @@
-use Rattle.std.proofs.Common.{length-set, rules}
-use Rattle.std.proofs.Math.Seq.{map-set_same}
+use Rattle.std.proofs.{Common.length-set, Common.rules, Math.Seq.map-set_same}
 use Rattle.buckets.proofs.Entries.{IsChained-push}
 use Rattle.buckets.proofs.chains.chain.Goals as goal
 

@@ -1,7 +1,5 @@
-use Rattle.std.proofs.Common.{◌∙◌, get_or, ap, arith}
-use Rattle.std.proofs.lemmas.Bool.{cases_lt}
-use Rattle.buckets.specs.Chains.{bucket_of_tag, entry_at}
-use Rattle.buckets.proofs.Entries.{Emptied-more}
+use Rattle.std.proofs.{Common.◌∙◌, Common.get_or, Common.ap, Common.arith, lemmas.Bool.cases_lt}
+use Rattle.buckets.{specs.Chains.bucket_of_tag, specs.Chains.entry_at, proofs.Entries.Emptied-more}
 use Rattle.buckets.proofs.chains.empty_each.Goals as goal
 
 pub loop-entry-preserved : goal.loop-entry-preserved
