@@ -139,17 +139,6 @@ lines_of-written (e ∷ es) one =
     lines_of-written_line (written_transition e) line _ (line_and_feed e) (All-head IsOneLine line others one)
     ∙ ap (λ (ls : List (List ℕ)). line ∷ ls) (lines_of-written es (All-tail IsOneLine line others one))
 
--- `IsSmall B` holds if the first state, the number of transitions and the number of states of the system B have at most
--- ten digits.
-pub record IsSmall (B : System) : Type 0 where
-  pub first : B.first < 10 ^ 10
-  pub transitions : length B.transitions < 10 ^ 10
-  pub states : B.states < 10 ^ 10
-
-small_in_file : (bounds : Bounds) (B : System) → IsWithinFile bounds → IsSystem B → B.states ≤ bounds.states →
-    length B.transitions ≤ bounds.transitions → IsSmall B
-small_in_file bounds B within system states transitions = search rules
-
 -- The lines of the text that is written for a system are the header and one line for each transition.
 listed_whole : (B : System) → Header (header_line B) B.first (length B.transitions) B.states →
     AllZip (SpellsAmong B.states) (map transition_line B.transitions) B.transitions →
@@ -161,36 +150,31 @@ listed_whole B header spelled =
     (Header-one _ _ _ _ header) ∙ ap (λ (ls : List (List ℕ)). header_line B ∷ ls) (lines_of-written B.transitions lines)
 
 -- Suppose that a well-formed system is within the limits `bounds`, and that `bounds` does not exceed the limits for
--- files. Then the header of the system, followed by the lines of its transitions in the order of the system (`listed`),
--- denotes this system.
-listed_reads : (bounds : Bounds) (B : System) → IsWithinFile bounds → IsSystem B → B.states ≤ bounds.states
-    → length B.transitions ≤ bounds.transitions → Reads bounds (listed B) B
-listed_reads bounds B within system states transitions =
-    let small = small_in_file bounds B within system states transitions in
+-- files. Then the text that is written for the system denotes the system, with its transitions in the order in which
+-- they are written.
+pub text_is_read_again : (bounds : Bounds) (A B : System) → IsWithinFile bounds → IsSystem A → A.states ≤ bounds.states
+    → length A.transitions ≤ bounds.transitions → IsInWrittenOrder A B → Reads bounds (listed B) B
+text_is_read_again bounds A B within system states transitions order =
+    let (start, count) : (B.first ≡ A.first) × (B.states ≡ A.states) = (order.first, order.states) in
+    let as_many = length_permutation B.transitions A.transitions order.same in
+    let among : All (IsAmong B.states) B.transitions = rw count (All-permutation (IsAmong A.states) A.transitions
+    B.transitions (IsPermutation-sym _ _ order.same) system.transitions) in
+    let first : B.first < B.states = omega (arith, system.first) in
+    let (few_states, few) : (B.states < 10 ^ 10) × (length B.transitions < 10 ^ 10) = (omega arith, omega arith) in
     let header : Header (header_line B) B.first (length B.transitions) B.states =
-    (_, _, _, (small.first, refl), (small.transitions, refl), (small.states, refl), spaced_header _ _ _) in
-    let spelled = spells_transitions B.states small.states B.transitions
-    (recursion_from_All (IsAmong B.states) B.transitions system.transitions) in
+    (_, _, _, (omega arith, refl), (few, refl), (few_states, refl), spaced_header _ _ _) in
+    let spelled = spells_transitions B.states few_states B.transitions
+    (recursion_from_All (IsAmong B.states) B.transitions among) in
     record {
       header = header_line B;
       lines = map transition_line B.transitions;
       whole = listed_whole B header spelled;
       good = record {
-        short = header_line-short B small.first small.transitions small.states;
+        short = header_line-short B (omega arith) few few_states;
         header = header;
-        first = system.first;
-        states = states;
-        transitions = transitions;
+        first = first;
+        states = omega arith;
+        transitions = omega arith;
       };
       spelled = spelled;
     }
-
-pub text_is_read_again : (bounds : Bounds) (A B : System) → IsWithinFile bounds → IsSystem A → A.states ≤ bounds.states
-    → length A.transitions ≤ bounds.transitions → IsInWrittenOrder A B → Reads bounds (listed B) B
-text_is_read_again bounds A B within system states transitions order =
-    let (first, count) : (B.first ≡ A.first) × (B.states ≡ A.states) = (order.first, order.states) in
-    let as_many = length_permutation B.transitions A.transitions order.same in
-    let among = All-permutation (IsAmong A.states) A.transitions B.transitions (IsPermutation-sym _ _ order.same)
-    system.transitions in
-    listed_reads bounds B within (record { first = omega (arith, system.first); transitions = rw count among })
-    (omega arith) (omega arith)
