@@ -48,12 +48,8 @@ up_to_more P i = search rules
 -- and k in `new` (`IsUnion`).
 pub IsUnion-grown : {old new : List (List (ℕ × ℕ))} {j k i : ℕ} → Grow old new → j < length old → k < length old
     → i < length new → Unites (list_at new i) (list_at old j) (list_at old k) → IsUnion new (j, k) i
-IsUnion-grown {j} {k} grow first second within exactly = record {
-  within = within;
-  first = omega (arith, grow.longer);
-  second = omega (arith, grow.longer);
-  exactly = rw (grow.same j first, grow.same k second) exactly;
-}
+IsUnion-grown {j} {k} grow first second within exactly =
+    search (rules, grow.longer, rw (← grow.same j first, ← grow.same k second) at exactly)
 
 -- Suppose that each entry of a list of unions contains the IDs of two stored lists, and the ID of the stored list that
 -- is their union (`AreUnions`). If more lists are stored, each entry is still correct.
