@@ -1,15 +1,8 @@
 use Rattle.std.proofs.Common.{◌<◌, ◌≤◌, rules, arith}
 use Rattle.std.proofs.lemmas.Grind.{common_steps}
 use Rattle.lts.specs.Visited.{price_between}
-use Rattle.lts.proofs.CallerLemmas.{left_none, row_left, price_first, price_split, price_one_more}
+use Rattle.lts.proofs.CallerLemmas.{row_left, price_first, price_split, price_one_more}
 use Rattle.refine_core.proofs.strong.read_unvisited.Goals as goal
-
-pub read-requires-clause-room : goal.read-requires-clause-room
-read-requires-clause-room g c = rw (c.is_empty.ensures.0 c.if-is_empty.true, left_none) at c.requires.room
-
-pub returns-then-is_empty-clause-visits : goal.returns-then-is_empty-clause-visits
-returns-then-is_empty-clause-visits g c =
-    rw (c.is_empty.ensures.0 c.if-is_empty.true, left_none) c.read.ensures.visits
 
 pub edge-transition-requires-clause-room : goal.edge-transition-requires-clause-room
 edge-transition-requires-clause-room g c =
