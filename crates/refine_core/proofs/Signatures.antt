@@ -261,17 +261,14 @@ module _ (l : Grouped) (r : Signed) (ready : IsReadyToSign Branching l r) where
   -- of s.
   active_or_cached : (s : ℕ) → s < l.states → IsMember active s ⊎ IsSingleton of s
       ⊎ IsSignature Branching l of s (list_of r.signatures r.cached s)
-  active_or_cached s h = elim (ready.others s h) [
-    | inl one ↦ inl one
-    | inr (inl alone) ↦ inr (inl alone)
-    | inr (inr same) ↦ inr (⊎_map (λ alone. alone) (λ list. record {
-      exactly = λ k b. (
-        λ c. let has = (list.exactly k b).0 c in (has.0, (same (text_of l.labels k) b).1 has.1),
-        λ has. (list.exactly k b).1 (has.0, (same (text_of l.labels k) b).0 has.1),
-      );
-      ascending = list.ascending;
-    }) ((ready.cached refl).each s h))
-  ]
+  active_or_cached s h =
+      let now : IsListOf l (Was Branching l ready.old s) (list_of r.signatures r.cached s)
+      → IsAsBefore Branching l ready.old of s → IsSignature Branching l of s (list_of r.signatures r.cached s)
+      = λ list same. record {
+        exactly = λ k b. grind (arith, list.exactly k b, same (text_of l.labels k) b);
+        ascending = list.ascending;
+      } in
+      grind (arith, ready.others s h, (ready.cached refl).each s h, now)
 
   -- The cache contains a signature ID for each state. Suppose that the state s shares a block with an active state,
   -- which is a state that the round processes. Then s is active, too, or the cache contains the ID of the present
