@@ -69,12 +69,8 @@ module _ {bounds : Bounds} {H : List (List ℕ)} {given : List ℕ} {rest : Opti
 pub has_read : {T : Type 0} {bounds : Bounds} {H : List (List ℕ)} {given : List ℕ} {source : Used T} {s : Grouped}
     {at : Counts} {least : ℕ} → ReadsTo bounds H given source.after source.failures s →
     StaysWithin s.states (length s.places) quotient_passes at least → HasReadInput bounds given source at
-has_read got keeps = record {
-  exhausted = (got.at_end, got.sound);
-  input = got.read.0;
-  read = got.read.1;
-  keeps = keeps_part got.read.2.states got.as_many keeps;
-}
+has_read got keeps = let within = keeps_part got.read.2.states got.as_many keeps in
+    search (rules, got.at_end, got.sound, got.read.1, within)
 
 -- Suppose that the systems A and B have the same steps, that Q is the minimised system for A, and that R results from Q
 -- by sorting the transitions into the order in which they are written. Then R is the minimised system for B.
@@ -112,13 +108,6 @@ module _ {bounds : Bounds} {H : List (List ℕ)} {first second : List ℕ} {rest
       Turns rel (union_of (Hide H one.read.0) (Hide H other.read.0)) r
   turns_of rel = turns_alike rel _ _ (unions_alike _ _ _ _ (steps_of_text one) (steps_of_text other))
 
-  pub states_of_both : s.states + t.states ≡ one.read.0.states + other.read.0.states
-  states_of_both = ap₂ ◌+◌ one.read.2.states other.read.2.states
-
-  pub places_of_both : length s.places + length t.places
-      ≡ length one.read.0.transitions + length other.read.0.transitions
-  places_of_both = ap₂ ◌+◌ one.as_many other.as_many
-
 -- Suppose that both inputs of a comparison were read to their ends, and that the numbers of rounds and visits (reads of
 -- transitions) on the meter are within the bounds for a comparison of the systems in memory. Then these numbers are
 -- within the bounds for a comparison of the systems that the inputs describe (`HasReadBoth`).
@@ -137,5 +126,5 @@ has_read_both one other took keeps = record {
     reads_first = one.read.1;
     reads_second = other.read.1;
   };
-  keeps = keeps_part (states_of_both one other) (places_of_both one other) keeps;
+  keeps = keeps_part (ap₂ ◌+◌ one.read.2.states other.read.2.states) (ap₂ ◌+◌ one.as_many other.as_many) keeps;
 }

@@ -1,10 +1,8 @@
-use Rattle.std.proofs.Common.{rules, ◌+◌, refl}
-use Rattle.quotient.specs.Visits.{union_passes}
+use Rattle.std.proofs.Common.{rules, ◌+◌, ap₂, refl}
 use Rattle.autfmt.specs.declared.fault.Fault.TheVariants.{Memory}
 use Rattle.autbis.specs.declared.compare.Side.TheVariants.{Run}
 use Rattle.autbis.specs.Comparisons.ComparisonFails.{second_not_read, out_of_memory, not_written}
-use Rattle.autbis.proofs.Runs.{has_read_both, keeps_whole, places_of_both, states_of_both, takes_error, turns_of}
-use Rattle.autbis.proofs.Runs.{verdict_of}
+use Rattle.autbis.proofs.Runs.{has_read_both, keeps_whole, takes_error, turns_of, verdict_of}
 use Rattle.autbis.proofs.compare.run_cmp.Goals as goal
 
 pub returns-in_err-first-clause-outcome : goal.returns-in_err-first-clause-outcome
@@ -15,14 +13,15 @@ returns-in_err-second-clause-outcome g c =
     let one = c.in_ok-first.ensures.outcome in
     let got = c.in_err-second.ensures.outcome in
     takes_error c.in_err-second.field-0.0 one.given c.from_residual-in_err-second.ensures.1 one.took
-    (second_not_read (record {
-      side = got.outcome.0;
-      exhausted = (one.outcome.at_end, one.outcome.sound);
-      readable = (one.outcome.read.0, one.outcome.read.1);
-      second = got.given;
-      took = got.took;
-      refused = got.outcome.1;
-    }) c.requires.sink c.requires.fresh)
+    (second_not_read (search (
+      rules,
+      got.outcome.0,
+      got.outcome.1,
+      got.took,
+      one.outcome.at_end,
+      one.outcome.sound,
+      one.outcome.read.1,
+    )) c.requires.sink c.requires.fresh)
 
 pub returns-in_err-same-clause-outcome : goal.returns-in_err-same-clause-outcome
 returns-in_err-same-clause-outcome g c =
@@ -63,8 +62,8 @@ returns-clause-outcome g c =
         written = (c.in_ok-write_verdict.ensures.ok, c.in_ok-write_verdict.ensures.failures);
         counts = record {
           turns = turns_of one.outcome other.outcome _ _ is.turns;
-          keeps = keeps_whole (states_of_both one.outcome other.outcome) (places_of_both one.outcome other.outcome)
-              ((g.M.Meter.counted c.equivalent.new.m).rounds + union_passes) is.keeps;
+          keeps = keeps_whole (ap₂ ◌+◌ one.outcome.read.2.states other.outcome.read.2.states)
+              (ap₂ ◌+◌ one.outcome.as_many other.outcome.as_many) _ is.keeps;
         };
       };
     }

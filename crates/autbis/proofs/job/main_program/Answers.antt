@@ -1,4 +1,4 @@
-use Rattle.std.proofs.Common.{◌∙◌, inl, inr, refl}
+use Rattle.std.proofs.Common.{rules, ◌∙◌, inl, inr, refl}
 use Rattle.autbis.specs.Jobs.JobEnds.{given_up, ran}
 use Rattle.autbis.specs.Programs.AnswersWords.{job, no_job}
 use Rattle.autbis.proofs.{Ending.as_revealed, Ending.ends_revealed, InOrder.all_closed, InOrder.given_up_fails}
@@ -30,14 +30,9 @@ returns-in-Ok-open_job-clause-silent g c low =
     let same = c.in-Ok-open_job.ensures.silent in
     elim (c.run_opened-status.ensures.silent low) [
       | inl silent ↦ inl (silent ∙ same)
-      | inr (stats, shown) ↦ inr (record {
-        job = c.in-Ok.job;
-        asked = c.in-Ok.ensures.job;
-        stats = stats;
-        hidden = _;
-        hides = is.hidden;
-        shown = (as_revealed _ _ _ (is.texts.contents _)).2 _ _ (rw same at shown);
-      })
+      | inr (stats, shown) ↦
+          let shown = (as_revealed _ _ _ (is.texts.contents _)).2 _ _ (rw same at shown) in
+          inr (search (rules, c.in-Ok.ensures.job, stats, is.hidden, shown))
     ]
 
 pub returns-clause-silent : goal.returns-clause-silent

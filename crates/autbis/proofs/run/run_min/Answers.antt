@@ -36,12 +36,8 @@ to g c listing order =
       input = got.read.0;
       output = listing;
       read = got.read.1;
-      minimises = minimises_alike (steps_of_text got) (record {
-        quotient = is.quotient;
-        equivalent = is.equivalent;
-        no_two_bisimilar = is.no_two_bisimilar;
-        smallest = is.smallest;
-      }) order;
+      minimises = minimises_alike (steps_of_text got)
+          (search (rules, is.quotient, is.equivalent, is.no_two_bisimilar, is.smallest)) order;
       sorted = order.sorted;
       read_again = text_is_read_again c.args.lim.now (system_of q) listing c.invariants.ensures
           (quotient_system c.args.rel _ (system_of q) c.states.ensures.lts.system is.quotient)
