@@ -3,7 +3,7 @@
 -- which can be read in exactly one way or have exactly one first error. The lemmas of `proofs/FirstFaults` apply to
 -- both, because each line is correct or has exactly one error.
 use Rattle.std.proofs.Common.{◌≡◌, ◌⊎◌, ⊎_elim, ℕ, ◌+◌, ◌<◌, ◌≤◌, List, [], ◌∷◌, ◌++◌, length, None, Some, refl, sym}
-use Rattle.std.proofs.Common.{◌∙◌, subst, inl, inr, arith, length-append}
+use Rattle.std.proofs.Common.{◌∙◌, inl, inr, arith, length-append}
 use Rattle.std.specs.{List.AllZip, Prelude.nat_lt}
 use Rattle.std.proofs.lemmas.{Option.cond_some, Slice.Zip.AllZip-long}
 use Rattle.theory.specs.System.{System, Transition}
@@ -87,7 +87,7 @@ text_steps : (bounds : Bounds) (line : List ℕ) (lines : List (List ℕ)) (afte
 text_steps bounds line lines after (next, (f, m, n, good, e), steps) =
     let (es, j, spelled, count, few, end) =
     Steps-lines (GoodLine bounds) (SpellsAmong n) m (λ i. Some (m, n, i)) (λ i line next. (λ h. h, λ h. h)) lines 0
-    after (omega arith) (subst (λ (s : LinesBefore). Steps (GoodLine bounds) s lines after) e steps) in
+    after (omega arith) (rw e at steps) in
     (f, m, n, es, j, good, spelled, omega arith, few, end)
 
 -- A line denotes at most one transition.
@@ -102,12 +102,10 @@ Reads-unique bounds text A B a b =
     let same = sym b.whole ∙ a.whole in
     let header : b.header ≡ a.header = cc in
     let lines : b.lines ≡ a.lines = cc in
-    let good = subst (λ (h : List ℕ). Header h B.first (length B.transitions) B.states) header b.good.header in
-    let u = one_header a.header A.first _ A.states B.first _ B.states a.good.header good in
+    let u = one_header a.header A.first _ A.states B.first _ B.states a.good.header (rw header at b.good.header) in
     let transitions =
     AllZip-unique (SpellsAmong A.states) (SpellsAmong B.states) (λ line d e h k. one_spelled line d e h.0 k.0) a.lines
-    A.transitions B.transitions a.spelled
-    (subst (λ (ls : List (List ℕ)). AllZip (SpellsAmong B.states) ls B.transitions) lines b.spelled) in
+    A.transitions B.transitions a.spelled (rw lines at b.spelled) in
     λ i. record { first = u.0 i; states = u.2 i; transitions = transitions i }
 
 -- If an input denotes a system, the input has no error (`FirstFault`).
@@ -190,8 +188,7 @@ Steps-hides lines H j good count few =
 pub HideReads-unique : (text : List ℕ) (H H' : List (List ℕ)) → HideReads text H → HideReads text H' → H ≡ H'
 HideReads-unique text H H' a b =
     let same = sym b.1 ∙ a.1 in
-    AllZip-unique Hides Hides (λ line x y h k. one_hide_line line x y h.1 k.1) a.0 H H' a.3
-    (subst (λ (lines : List (List ℕ)). AllZip Hides lines H') same b.3)
+    AllZip-unique Hides Hides (λ line x y h k. one_hide_line line x y h.1 k.1) a.0 H H' a.3 (rw same at b.3)
 
 -- If a text can be read as a hide list (a file with one label to hide on each line), then the text has no error
 -- (`FirstHideFault`).

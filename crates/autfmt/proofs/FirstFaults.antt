@@ -133,7 +133,7 @@ module _ {S X : Type 0} (Good : S → List ℕ → S → Type 0) (IsLine : List 
   Steps-lines (line ∷ lines) i after few (next, good, steps) =
       let (less, (x, one, e)) = (is i line next).0 good in
       let (xs, j, each, size, within, end) =
-      Steps-lines lines (i + 1) after (omega arith) (subst (λ (s : S). Steps Good s lines after) e steps) in
+      Steps-lines lines (i + 1) after (omega arith) (rw e at steps) in
       (x ∷ xs, j, (one, each), omega arith, within, end)
 
 -- `AreJudged Good Bad end_fault` holds if each line is either correct (`Good`) or has exactly one error (`Bad`). The
@@ -170,7 +170,7 @@ module _ {S : Type 0} {Good : S → List ℕ → S → Type 0} {Bad : S → List
   FaultFrom-unique s (line ∷ others) f g (inr (t, good, a)) (inl b) = absurd ((law.line s line).apart t g good b)
   FaultFrom-unique s (line ∷ others) f g (inr (t, good, a)) (inr (u, good', b)) =
       let same = (law.line s line).one u t good' good in
-      FaultFrom-unique t others f g a (subst (λ (v : S). First v others g) same b)
+      FaultFrom-unique t others f g a (rw same at b)
 
   -- If correct lines are put in front of lines, the first error remains the same.
   pub FaultFrom-behind : (s t : S) (front others : List (List ℕ)) (f : Fault) → Steps Good s front t →
@@ -180,8 +180,7 @@ module _ {S : Type 0} {Good : S → List ℕ → S → Type 0} {Bad : S → List
   FaultFrom-behind s t (line ∷ front) others f (u, good, steps) =
       let (there, back) = FaultFrom-behind u t front others f steps in
       let judged = law.line s line in (
-        ⊎_elim (λ bad. absurd (judged.apart u f good bad)) (λ h. there (subst (λ (v : S). First v (front ++ others) f)
-            (judged.one h.0 u h.1 good) h.2)),
+        ⊎_elim (λ bad. absurd (judged.apart u f good bad)) (λ h. there (rw (judged.one h.0 u h.1 good) at h.2)),
         λ h. inr (u, good, back h),
       )
 
