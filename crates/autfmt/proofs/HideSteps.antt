@@ -2,20 +2,20 @@
 -- lemmas describe the state of the reader after each step, and justify each error that the reader returns.
 use Rattle.std.proofs.Common.{◌≡◌, ◌⊎◌, ◌↔◌, ⊎_elim, ℕ, ◌<◌, ◌≤◌, Bool, true, false, List, [], ◌∷◌, ◌++◌, length, Option}
 use Rattle.std.proofs.Common.{◌+◌, Contains, refl, sym, inl, inr, arith}
-use Rattle.std.proofs.lemmas.Slice.Zip.{AllZip-long, all_zipped_more}
-use Rattle.std.proofs.lemmas.List.Elements.{All-nil, Contains-append_left, Contains-push, Contains-push_cases}
+use Rattle.std.proofs.lemmas.Slice.Zip.{AllZip-long}
+use Rattle.std.proofs.lemmas.List.Elements.{Contains-append_left, Contains-push, Contains-push_cases}
 use Rattle.std.specs.Io.KnownBytes.{IsAtEnd}
 use Rattle.lts.specs.Labels.{Interns}
 use Rattle.autfmt.specs.{declared.fault.Fault.Fault, HideLists.Hides, HideLists.FirstHideFault}
 use Rattle.autfmt.specs.{Faults.LineFault}
-use Rattle.autfmt.specs.{Cutter.Cutting, Cutter.CutsLine, Cutter.IsPart, HideReadSoFar.HideReadSoFar}
+use Rattle.autfmt.specs.{Cutter.Cutting, Cutter.IsPart, HideReadSoFar.HideReadSoFar}
 use Rattle.autfmt.specs.declared.fault.Fault.TheVariants.{Device}
 use Rattle.autfmt.specs.HideReaders.{IsHideFault, SameLabels, HidesAs}
 use Rattle.autfmt.specs.{HideOutcomes.HideRefuses, HideOutcomes.HideRefuses.failed_source}
 use Rattle.autfmt.specs.{HideOutcomes.HideRefuses.faulty_text, declared.limits.TheConstants.MOST_LINES}
 use Rattle.autfmt.proofs.{FirstFaults.First, FirstFaults.FaultFrom-behind, FirstFaults.FaultFrom-not_known}
 use Rattle.autfmt.proofs.{FaultLaws.hides_are_judged, FaultLaws.Steps-hides}
-use Rattle.autfmt.proofs.Cutting.{HasCut-line, HasCut-end, HasCut-part, LeadsTo}
+use Rattle.autfmt.proofs.Cutting.{HasCut-end, HasCut-part, LeadsTo}
 use Rattle.autfmt.proofs.ReaderSteps.{if_revealed}
 
 -- If the label a is appended to the list H, then the result contains exactly the labels of H and the label a.
@@ -27,7 +27,7 @@ pushed H a b =
 
 -- Suppose that two lists contain the same labels. If the label a is interned in the first list and appended to the
 -- second list, then the resulting lists contain the same labels too.
-SameLabels-add :
+pub SameLabels-add :
     (hidden H : List (List ℕ)) (a : List ℕ) (now : List (List ℕ)) → SameLabels hidden H → Interns hidden a now →
     SameLabels now (H ++ a ∷ [])
 SameLabels-add hidden H a now same (inl (known, is)) b =
@@ -68,27 +68,6 @@ module _ {given : List ℕ} {old : Cutting} {H hidden : List (List ℕ)} (got : 
       (⊎_elim (λ less. inl (length H + 1, λ line long. inl (less, LineFault.too_long refl long)))
       (λ none. inr (none, refl)) unjudged)
       f (λ more. (known more).first))
-
-  -- Suppose that the source (the object from which the hide list is read) fails after the last line that is allowed.
-  -- Then the reader may return `Device`, which is the error of a failed source. The contract allows this error only if
-  -- the first error of the hide list still depends on the bytes that may follow. The reason for this is that the hide
-  -- list has no error if no further line follows.
-  pub hide_end_failed :
-      (rest : Option (List ℕ)) (failures : ℕ) → length H ≡ MOST_LINES → failures ≡ 1 →
-      (old.over ≡ false) × (old.ahead ++ got ≡ []) → HideRefuses (given ++ got) rest failures Device
-  hide_end_failed rest failures count failed (open_at, none) = grind (arith, hide_failed, All-nil)
-
-  -- If the next line is the label a, then the labels that have been read after this line are the labels that had been
-  -- read before it, followed by a.
-  pub hide_good :
-      (now : Cutting) (a : List ℕ) (hidden' : List (List ℕ)) → (old.over ≡ false) × CutsLine (old.ahead ++ got) now →
-      Hides now.line a → Interns hidden a hidden' → HideReadSoFar (given ++ got) now (H ++ a ∷ []) hidden'
-  hide_good now a hidden' cuts names added = record {
-    lines = so_far.lines ++ now.line ∷ [];
-    cut = HasCut-line given got so_far.lines old so_far.cut now cuts;
-    named = all_zipped_more Hides so_far.lines H now.line a so_far.named names;
-    same = SameLabels-add hidden H a hidden' so_far.same added;
-  }
 
   -- Suppose that the lines that follow have a first error, and that the reader returns this error. Then this error is
   -- the first error of the hide list.

@@ -6,7 +6,7 @@ use Rattle.std.proofs.Common.{[], ◌∷◌, length, Bool, None, Some, IfSome, O
 use Rattle.std.proofs.Common.{◌+◌, rules, append_assoc}
 use Rattle.std.specs.Io.KnownBytes.{Consumes, IsAtEnd}
 use Rattle.std.proofs.KnownBytes.{Consumes-trans}
-use Rattle.std.proofs.lemmas.{List.Elements.All-nil, Slice.Zip.all_zipped_more, Result.err_from_is_err_and}
+use Rattle.std.proofs.lemmas.{Slice.Zip.all_zipped_more, Result.err_from_is_err_and}
 use Rattle.std.proofs.lemmas.Bool.{cases_lt}
 use Rattle.std.proofs.lemmas.List.Sorted.{length_permutation, Contains-permutation}
 use Rattle.theory.specs.System.{Transition, IsAmong}
@@ -17,15 +17,15 @@ use Rattle.autfmt.specs.Outcomes.{Takes, Refuses, ReadsTo}
 use Rattle.autfmt.specs.declared.cutter.Step.{Step}
 use Rattle.autfmt.specs.declared.cutter.Step.TheVariants.{Line}
 use Rattle.autfmt.specs.declared.fault.Fault.TheVariants.{MissingEdges, Device, Memory}
-use Rattle.autfmt.specs.Texts.{lines_of, IsShort, GoodHeader, Reads}
+use Rattle.autfmt.specs.Texts.{lines_of, IsShort, GoodHeader}
 use Rattle.autfmt.specs.{Faults.LineFault, Faults.HeaderFault, Faults.end_fault, Faults.FirstFault}
 use Rattle.autfmt.specs.{Cutter.Cutting, Cutter.HasCut, Cutter.IsPart, Gathering.Makes}
 use Rattle.autfmt.specs.ReadSoFar.{ReadSoFar, HeldSoFar, ReadsOneMore, HoldsText}
 use Rattle.autfmt.specs.Outcomes.Refuses.{no_memory, failed_source, faulty_text}
 use Rattle.autfmt.proofs.{FirstFaults.First, FirstFaults.FaultFrom-behind, FirstFaults.FaultFrom-not_known}
-use Rattle.autfmt.proofs.{FaultLaws.texts_are_judged, FaultLaws.Steps-text, FaultLaws.Reads-from_lines}
+use Rattle.autfmt.proofs.{FaultLaws.texts_are_judged, FaultLaws.Steps-text}
 use Rattle.autfmt.proofs.Holding.{Holds-length}
-use Rattle.autfmt.proofs.Cutting.{HasCut-line, HasCut-end, HasCut-part, Follows, LeadsTo, after}
+use Rattle.autfmt.proofs.Cutting.{HasCut-line, HasCut-part, Follows, LeadsTo, after}
 
 -- Suppose that two calls read bytes from a source (an object from which an input is read), one call after the other.
 -- Suppose also that a result satisfies the conditions of `Takes` for the list of all bytes that these two calls have
@@ -100,15 +100,6 @@ module _ {bounds : Bounds} {given : List ℕ} {old : Cutting} {p : Promise} {es 
   abbrev before : List (List ℕ)
   before = so_far.header ∷ so_far.lines
 
-  -- Suppose that all transitions that the header declares have been read, and that no bytes follow. Then the input
-  -- denotes a system with these transitions.
-  pub text_ends : length es ≡ p.transitions → old.ahead ++ got ≡ [] →
-      Reads bounds (given ++ got) (record { first = p.first; states = p.states; transitions = es })
-  text_ends count none =
-      let l = HasCut-end given got before old so_far.cut none in
-      Reads-from_lines bounds (given ++ got) so_far.header so_far.lines p.first p.transitions p.states es l so_far.good
-      so_far.spelled count
-
   -- Suppose that the source (the object from which the input is read) fails before the next line has been read to its
   -- end. Then the reader may return `Device`, which is the error of a failed source. The contract allows this error
   -- only if the first error of the input still depends on the bytes that may follow. The reason for this is that the
@@ -126,15 +117,6 @@ module _ {bounds : Bounds} {given : List ℕ} {old : Cutting} {p : Promise} {es 
       (λ full. inr (⊎_elim (λ less. absurd (omega arith)) (λ none. none) unjudged, grind arith))
       (cases_lt (length es) p.transitions))
       f (λ more. (known more).first))
-
-  -- Suppose that the source (the object from which the input is read) fails after the last transition that the header
-  -- declares. Then the reader may return `Device`, which is the error of a failed source. The contract allows this
-  -- error only if the first error of the input still depends on the bytes that may follow. The reason for this is that
-  -- the input has no error if no further line follows.
-  pub end_failed :
-      (rest : Option (List ℕ)) (failures : ℕ) → length es ≡ p.transitions → failures ≡ 1 →
-      (old.over ≡ false) × (old.ahead ++ got ≡ []) → Refuses bounds (given ++ got) rest failures Device
-  end_failed rest failures count failed (open_at, none) = grind (arith, transition_failed, All-nil)
 
   -- Suppose that the next line denotes a transition e, and that the source and the target of e are states of the
   -- system. Then the transitions that have been read are the transitions before this line and e.

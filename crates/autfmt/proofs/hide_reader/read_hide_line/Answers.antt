@@ -1,9 +1,10 @@
-use Rattle.std.proofs.Common.{inl, refl, arith}
-use Rattle.std.proofs.lemmas.List.{length_push}
+use Rattle.std.proofs.Common.{◌++◌, ◌∷◌, [], inl, refl, arith}
+use Rattle.std.proofs.lemmas.{List.length_push, Slice.Zip.all_zipped_more}
+use Rattle.autfmt.specs.HideLists.{Hides}
 use Rattle.autfmt.specs.{Faults.LineFault.too_long}
 use Rattle.autfmt.specs.declared.cutter.Step.TheVariants.{Line, TooLong}
-use Rattle.autfmt.proofs.{Cutting.after, ReaderSteps.returns_error}
-use Rattle.autfmt.proofs.HideSteps.{hide_ends, hide_failed, hide_good, hide_refused}
+use Rattle.autfmt.proofs.{Cutting.HasCut-line, Cutting.after, ReaderSteps.returns_error}
+use Rattle.autfmt.proofs.HideSteps.{hide_ends, hide_failed, hide_refused, SameLabels-add}
 use Rattle.autfmt.proofs.hide_reader.read_hide_line.Goals as goal
 
 pub returns-in_err-advance-clause-line : goal.returns-in_err-advance-clause-line
@@ -49,10 +50,20 @@ returns-in_err-label-clause-line g c =
 pub returns-clause-line : goal.returns-clause-line
 returns-clause-line g c =
     let s = rw c.in-Line.is at c.in_ok-advance.ensures.step in
+    let now = c.advance.new.self in
+    let a = c.in_ok-label.label.now in
     let good = rw c.line.ensures at c.in_ok-label.ensures.good in (
       s.0,
       s.1,
-      λ given H so_far count. (_, hide_good s.0 so_far _ c.in_ok-label.label.now _ s.2 good c.in_ok-add.ensures.added),
+      λ given H so_far count. (
+        a,
+        record {
+          lines = so_far.lines ++ now.line ∷ [];
+          cut = HasCut-line given s.0 so_far.lines c.args.cutter.now so_far.cut now s.2;
+          named = all_zipped_more Hides so_far.lines H now.line a so_far.named good;
+          same = SameLabels-add _ H a _ so_far.same c.in_ok-add.ensures.added;
+        },
+      ),
     )
 
 pub returns-clause-few : goal.returns-clause-few

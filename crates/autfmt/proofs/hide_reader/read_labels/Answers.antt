@@ -1,8 +1,8 @@
 use Rattle.std.proofs.Common.{[], ◌∷◌, ◌++◌, length, false, Ok, inl, inr, ap, refl, arith}
-use Rattle.std.proofs.lemmas.{List.length_push}
+use Rattle.std.proofs.lemmas.{List.length_push, List.Elements.All-nil}
 use Rattle.std.proofs.KnownBytes.{Consumes-nil, Consumes-trans}
 use Rattle.autfmt.proofs.{Cutting.more_lines, ReaderSteps.takes_more, ReaderSteps.returns_error}
-use Rattle.autfmt.proofs.HideSteps.{hide_ends, hide_end_failed, hide_refused}
+use Rattle.autfmt.proofs.HideSteps.{hide_ends, hide_failed, hide_refused}
 use Rattle.autfmt.proofs.hide_reader.read_labels.Goals as goal
 
 pub loop-found-init : goal.loop-found-init
@@ -43,7 +43,8 @@ returns-in_err-at_end g c =
     let (before, taken, H, so_far, count) = c.loop-found.invariant.got in
     let (last, took, none) = c.in_err-at_end.ensures.look in
     takes_more _ before last taken took (returns_error _ _ _ c.from_residual-in_err-at_end.ensures.1
-    (hide_end_failed last so_far _ _ (omega arith) c.in_err-at_end.ensures.failures none))
+    (hide_failed last so_far _ _ (omega arith) (inr none.1) c.in_err-at_end.ensures.failures
+    (none.0, rw none.1 (All-nil _, omega arith))))
 
 pub returns-then-not-at_end : goal.returns-then-not-at_end
 returns-then-not-at_end g c =

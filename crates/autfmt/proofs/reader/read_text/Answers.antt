@@ -3,8 +3,10 @@ use Rattle.std.specs.Io.KnownBytes.{Consumes}
 use Rattle.std.proofs.KnownBytes.{Consumes-trans}
 use Rattle.theory.specs.System.{Transition}
 use Rattle.autfmt.specs.ReadSoFar.{HeldSoFar}
-use Rattle.autfmt.proofs.{Cutting.more_lines, Holding.Holds-length, reader.read_text.Given.Over}
-use Rattle.autfmt.proofs.ReaderSteps.{takes_more, returns_error, end_failed, transition_refused, text_ends}
+use Rattle.std.proofs.lemmas.List.Elements.{All-nil}
+use Rattle.autfmt.proofs.FaultLaws.{Reads-from_lines}
+use Rattle.autfmt.proofs.{Cutting.HasCut-end, Cutting.more_lines, Holding.Holds-length, reader.read_text.Given.Over}
+use Rattle.autfmt.proofs.ReaderSteps.{takes_more, returns_error, transition_failed, transition_refused}
 use Rattle.autfmt.proofs.reader.read_text.Goals.{After-is_at_end}
 use Rattle.autfmt.proofs.reader.read_text.Goals as goal
 
@@ -35,7 +37,8 @@ returns-in_err-at_end-clause-whole g c =
     let count = c.in_ok-held.ensures.len in
     let size = Holds-length _ _ _ es now.1 in
     takes_more _ front last taken took (returns_error _ _ _ c.from_residual-in_err-at_end.ensures.1
-    (end_failed last now.0 _ _ (omega arith) c.in_err-at_end.ensures.failures none))
+    (transition_failed last now.0 _ _ (omega arith) (inr none.1) c.in_err-at_end.ensures.failures
+    (none.0, rw none.1 (All-nil _, omega arith))))
 
 pub returns-then-not-at_end-clause-whole : goal.returns-then-not-at_end-clause-whole
 returns-then-not-at_end-clause-whole g c =
@@ -51,4 +54,7 @@ returns-clause-whole g c =
     let (front, taken, es, now) = so_far g (goal.at.returns-clause-whole g c).After-is_at_end in
     let (last, took, look) = rw c.if-not-at_end.false at c.in_ok-at_end.ensures.look in
     let count = sym c.in_ok-held.ensures.len ∙ Holds-length _ _ _ es now.1 in
-    takes_more _ front last taken took (es, text_ends last now.0 (sym count) (look.2 refl), now.1)
+    let old = c.read_transitions.new.cutter in
+    let l = HasCut-end front last (now.0.header ∷ now.0.lines) old now.0.cut (look.2 refl) in
+    let read = Reads-from_lines _ (front ++ last) now.0.header now.0.lines _ _ _ es l now.0.good now.0.spelled (sym count) in
+    takes_more _ front last taken took (es, read, now.1)
