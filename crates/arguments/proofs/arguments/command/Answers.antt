@@ -1,5 +1,5 @@
 use Rattle.std.proofs.Common.{rules, inl, inr, ap, ap₂, arith, suc, List, [], ◌∷◌, Any, Result, Ok, Err, IfErr, map}
-use Rattle.std.proofs.Common.{refl, subst, sym, ◌≡◌, ◌∙◌, true, string_bytes}
+use Rattle.std.proofs.Common.{refl, subst, sym, ◌≡◌, ◌∙◌, string_bytes}
 use Rattle.std.proofs.lemmas.Result.{IfOk-weaker}
 use Rattle.clap.specs.{declared.error.Error.Error, declared.error.kind.ErrorKind.ErrorKind, Values.kind_of}
 use Rattle.clap.specs.Words.{HasKind, IsAmong, Text, fault_of, is_simple, is_simple_and_free, subcommand_of}
@@ -8,14 +8,6 @@ use Rattle.arguments.specs.Arguments.{AreTaken, IsFaultIn, IsFaultOf, IsFaultOfA
 use Rattle.arguments.specs.Arguments.{IsWholeIn, program_app}
 use Rattle.arguments.specs.declared.arguments.WordFault.TheVariants as fault
 use Rattle.arguments.proofs.arguments.command.Goals as goal
-
--- The contracts of `clap` hold only for simple descriptions of a command line (`is_simple`). This lemma says that the
--- description of the command line is simple.
-simple : is_simple program_app ≡ true
-simple = refl
-
-free : is_simple_and_free program_app ≡ true
-free = refl
 
 -- Suppose that `clap` accepts the arguments, and that r may be an error in making a job (a subcommand with its options)
 -- from the values that `clap` finds. Suppose also that, if `clap` has found all mandatory arguments, such an error
@@ -50,12 +42,14 @@ found_fault words e (fault.Usage text) among is =
     inr (some_kind (λ kind. ¬ IsHelp kind) (kind_of e) (fault_of program_app words) among is)
 found_fault words e fault.Memory among is = tt
 
+-- The contracts of `clap` hold only for simple descriptions of a command line (`is_simple`). The prover computes that the
+-- description `program_app` is simple.
 pub returns-in-Ok : goal.returns-in-Ok
 returns-in-Ok c =
     let words_are : c.as_slice.result.now ≡ c.args.words.items = search rules in
-    let found = c.in-Ok.ensures.matches (ap is_simple c.in_ok-described.ensures ∙ simple) in
+    let found = c.in-Ok.ensures.matches (ap is_simple c.in_ok-described.ensures) in
     let subcommand = found.1 ∙ ap₂ subcommand_of c.in_ok-described.ensures (ap (map string_bytes) words_are) in
-    let none = c.in-Ok.ensures.kinds (ap is_simple_and_free c.in_ok-described.ensures ∙ free) in
+    let none = c.in-Ok.ensures.kinds (ap is_simple_and_free c.in_ok-described.ensures) in
     let taken = sym (ap₂ fault_of c.in_ok-described.ensures (ap (map string_bytes) words_are)) ∙ none in
     record {
       job = IfOk-weaker c.job_of.result _ _ (λ job is. (taken, subst (λ s. IsJobIn s job) subcommand is))
@@ -70,7 +64,7 @@ returns-clause-fault c =
     let words_are : c.as_slice.result.now ≡ c.args.words.items = search rules in
     let same = ap₂ fault_of c.in_ok-described.ensures (ap (map string_bytes) words_are) in
     let kind = subst (λ kinds. HasKind kinds c.in-Err.error) same
-    (c.in-Err.ensures.kinds (ap is_simple_and_free c.in_ok-described.ensures ∙ free)) in
+    (c.in-Err.ensures.kinds (ap is_simple_and_free c.in_ok-described.ensures)) in
     elim kind [
       | inl memory ↦ subst (IsFaultOf (map string_bytes c.args.words.items)) (sym (c.fault_of.ensures.memory memory)) tt
       | inr among ↦ found_fault (map string_bytes c.args.words.items) c.in-Err.error _ among c.fault_of.ensures.kind
