@@ -2,15 +2,15 @@
 -- the decimal notation of the number. Each number in decimal notation can be read. The first lemmas are about blanks in
 -- front of a token, about the bytes that may follow a token, and about bytes that do not occur in a line.
 use Rattle.std.proofs.Common.{◌≡◌, ◌≢◌, ◌⊎◌, ℕ, Bool, true, false, not, List, [], ◌∷◌, ◌++◌, All, refl, sym, ap, ◌∙◌}
-use Rattle.std.proofs.Common.{append_assoc, arith, ◌+◌, ◌-◌, ◌*◌, ◌/◌, ◌%◌, ◌^◌, ◌<◌, ◌≤◌, cond, Option, Some, None}
-use Rattle.std.proofs.Common.{rules, ◌==◌, decimal, nat_lt, eq-eqb, ltb-true}
+use Rattle.std.proofs.Common.{append_assoc, arith, ◌+◌, ◌-◌, ◌*◌, ◌/◌, ◌%◌, ◌^◌, ◌<◌, ◌≤◌, Option, Some, None}
+use Rattle.std.proofs.Common.{rules, ◌==◌, decimal, eq-eqb}
 use Rattle.std.specs.{List.AllByRecursion, List.list_all, Char.is_ascii_digit}
-use Rattle.std.proofs.lemmas.{Grind.common_steps, Bool.cond_both, Bool.and_parts, Bool.Decides.nat_tests}
+use Rattle.std.proofs.lemmas.{Grind.common_steps, Bool.cond_both, Bool.Decides.nat_tests}
 use Rattle.std.proofs.lemmas.{Fmt.decimal_digit, Fmt.decimal_step, Fmt.decimal_by_steps}
 use Rattle.std.proofs.lemmas.List.Elements.{All-nil, All-cons, All-head, All-tail, All-append, All-weaker}
 use Rattle.std.proofs.lemmas.List.Sums.{AllPass-from_list_all, list_all-from_AllPass}
 use Rattle.autfmt.specs.Grammar.{Blanks, Spaced, IsDecimal}
-use Rattle.autfmt.specs.Reading.{is_blank, are_blanks, after_blanks, grows, more_digits, number_at, ◌>>=◌}
+use Rattle.autfmt.specs.Reading.{is_blank, are_blanks, after_blanks, more_digits, number_at, ◌>>=◌}
 
 -- `IsBlank b` holds if the byte b is a space, a tab or a carriage return.
 abbrev pub IsBlank : ℕ → Type 0
@@ -162,36 +162,20 @@ more_digits-takes : (v : ℕ) (bytes : List ℕ) (n : ℕ) (rest : List ℕ) →
 unfolding more_digits
 more_digits-takes v [] n rest small e = more_digits-done v [] n rest small e
 more_digits-takes v (b ∷ bytes) n rest small e =
-    cond_both (is_ascii_digit b) (cond (grows v) (more_digits (10 * v + (b - 48)) bytes) None) (Some (v, b ∷ bytes))
-    (λ r. r ≡ Some (n, rest) → Took v (b ∷ bytes) n rest)
-    (λ digit. cond_both (grows v) (more_digits (10 * v + (b - 48)) bytes) None
-    (λ r. r ≡ Some (n, rest) → Took v (b ∷ bytes) n rest)
-    (λ may f.
-    let h = and_parts (nat_lt 0 v) (nat_lt v (10 ^ 9)) may in
-    let low : 0 < v = ltb-true 0 v h.0 in
-    let high : v < 10 ^ 9 = ltb-true v (10 ^ 9) h.1 in
-    let range = digit-range b digit in
-    more_digits-one v (b - 48) b bytes n rest (omega arith) (decimal-more v (b - 48) low (omega arith) (omega arith))
-    (more_digits-takes (10 * v + (b - 48)) bytes n rest (omega arith) f))
-    (λ _ f. absurd cc))
-    (λ _ f. more_digits-done v (b ∷ bytes) n rest small f)
-    e
+    let d = b - 48 in
+    let later = more_digits-takes (10 * v + d) bytes n rest in
+    let one = more_digits-one v d b bytes n rest in
+    let done = more_digits-done v (b ∷ bytes) n rest small in
+    let step = decimal-more v d in
+    grind (arith, nat_tests, later, one, done, step, digit-range b)
 
 pub number_at-takes : (bytes : List ℕ) (n : ℕ) (rest : List ℕ) → number_at bytes ≡ Some (n, rest) →
     (digits : List ℕ) × IsDecimal digits n × (bytes ≡ digits ++ rest)
 unfolding number_at
 number_at-takes [] n rest e = absurd cc
 number_at-takes (b ∷ bytes) n rest e =
-    cond_both (is_ascii_digit b) (more_digits (b - 48) bytes) None
-    (λ r. r ≡ Some (n, rest) → (digits : List ℕ) × IsDecimal digits n × (b ∷ bytes ≡ digits ++ rest))
-    (λ digit f.
-    let range = digit-range b digit in
-    let t = more_digits-takes (b - 48) bytes n rest (omega arith) f in
-    let is : 48 + (b - 48) ≡ b = omega arith in
-    let value : decimal n ≡ b ∷ t.digits = grind (arith, t.digits, decimal_digit) in
-    (b ∷ t.digits, (t.small, sym value), ap (λ (x : List ℕ). b ∷ x) t.parts))
-    (λ _ f. absurd cc)
-    e
+    let took = more_digits-takes (b - 48) bytes n rest in
+    let first = decimal_digit (b - 48) in grind (arith, nat_tests, took, first, digit-range b)
 
 -- ---- Every decimal number can be read
 
