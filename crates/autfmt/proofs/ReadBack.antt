@@ -42,46 +42,40 @@ spelled_line-short s t b d end spelling a source target before between behind is
     let third = length-spelling spelling a is in
     simp length-append (omega arith)
 
--- `IsSpaced tokens line` holds if the line consists of the tokens in their order, with any number of blanks before,
--- between and after them.
-pub record IsSpaced (tokens : List (List ℕ)) (line : List ℕ) : Type 0 where
-  pub spaced : Spaced tokens line
-
-pub next : {rest : List ℕ} {tokens : List (List ℕ)} (before token : List ℕ) → Blanks before → IsSpaced tokens rest →
-    IsSpaced (token ∷ tokens) (before ++ token ++ rest)
-next {rest} before token blank s = record { spaced = (before, rest, blank, refl, s.spaced) }
-
 pub none : Blanks []
 none = All-nil IsBlank
 
 pub a_space : Blanks (32 ∷ [])
 a_space = All-from_recursion IsBlank (32 ∷ []) (inl refl, tt)
 
--- Suppose that a comma, blanks and a token are put in front of the rest of a line. Then the tokens of the result are
--- the comma, this token, and the tokens of the rest.
-after_comma : {rest : List ℕ} {tokens : List (List ℕ)} (blanks token : List ℕ) → Blanks blanks → IsSpaced tokens rest →
-    IsSpaced (codes "," ∷ token ∷ tokens) (codes "," ++ (blanks ++ token ++ rest))
-after_comma blanks token blank s = next [] (codes ",") none (next blanks token blank s)
+-- `joined tokens e` are the bytes of a line that consists of tokens with blanks before them and of the blanks e after
+-- them. Each element of the list `tokens` contains the blanks before a token and this token.
+abbrev joined : List (List ℕ × List ℕ) → List ℕ → List ℕ
+joined [] e = e
+joined (x ∷ tokens) e = x.0 ++ x.1 ++ joined tokens e
 
-closed : {rest : List ℕ} → Blanks rest → IsSpaced (codes ")" ∷ []) (codes ")" ++ rest)
-closed {rest} behind = next {rest = rest} {tokens = []} [] (codes ")") none (record { spaced = behind })
+Spaced-joined : (tokens : List (List ℕ × List ℕ)) (e : List ℕ) → AllByRecursion (λ x. Blanks x.0) tokens → Blanks e →
+    Spaced (map (λ x. x.1) tokens) (joined tokens e)
+Spaced-joined [] e blanks behind = behind
+Spaced-joined (x ∷ tokens) e blanks behind =
+    (x.0, joined tokens e, blanks.0, refl, Spaced-joined tokens e blanks.1 behind)
 
 pub spaced_line : (s b l d t e : List ℕ) → Blanks b → Blanks d → Blanks e
     → Spaced (codes "(" ∷ s ∷ codes "," ∷ l ∷ codes "," ∷ t ∷ codes ")" ∷ [])
     ((codes "(" ++ s ++ codes "," ++ b ++ l ++ codes "," ++ d ++ t ++ codes ")") ++ e)
 spaced_line s b l d t e before between behind =
-    let nested =
-    next [] (codes "(") none (next [] s none (after_comma b l before (after_comma d t between (closed behind)))) in
-    subst (Spaced (codes "(" ∷ s ∷ codes "," ∷ l ∷ codes "," ∷ t ∷ codes ")" ∷ [])) (simp append_assoc) nested.spaced
+    let front : List (List ℕ × List ℕ) = ([], codes "(") ∷ ([], s) ∷ ([], codes ",") ∷ (b, l) ∷ [] in
+    let tokens = front ++ ([], codes ",") ∷ (d, t) ∷ ([], codes ")") ∷ [] in
+    let spaced = Spaced-joined tokens e (none, (none, (none, (before, (none, (between, (none, tt))))))) behind in
+    subst (Spaced (codes "(" ∷ s ∷ codes "," ∷ l ∷ codes "," ∷ t ∷ codes ")" ∷ [])) (simp append_assoc) spaced
 
 spaced_header : (f m n : List ℕ) → Spaced (codes "des" ∷ codes "(" ∷ f ∷ codes "," ∷ m ∷ codes "," ∷ n ∷ codes ")" ∷ [])
     (codes "des (" ++ f ++ codes ", " ++ m ++ codes ", " ++ n ++ codes ")")
 spaced_header f m n =
-    let numbers = next [] f none (after_comma (codes " ") m a_space (after_comma (codes " ") n a_space
-    (closed {rest = []} none))) in
-    let nested = next [] (codes "des") none (next (codes " ") (codes "(") a_space numbers) in
-    subst (Spaced (codes "des" ∷ codes "(" ∷ f ∷ codes "," ∷ m ∷ codes "," ∷ n ∷ codes ")" ∷ []))
-    (simp append_assoc) nested.spaced
+    let front : List (List ℕ × List ℕ) = ([], codes "des") ∷ (codes " ", codes "(") ∷ ([], f) ∷ ([], codes ",") ∷ [] in
+    let tokens = front ++ (codes " ", m) ∷ ([], codes ",") ∷ (codes " ", n) ∷ ([], codes ")") ∷ [] in
+    subst (Spaced (codes "des" ∷ codes "(" ∷ f ∷ codes "," ∷ m ∷ codes "," ∷ n ∷ codes ")" ∷ [])) (simp append_assoc)
+    (Spaced-joined tokens [] (none, (a_space, (none, (none, (a_space, (none, (a_space, (none, tt)))))))) none)
 
 -- `transition_line e` is the line that is written for the transition e, without its line feed.
 abbrev transition_line : Transition → List ℕ
