@@ -81,8 +81,7 @@ some_line (b ∷ bs) some =
 
 -- If bytes are appended to a text that ends with a line feed, then the lines of these bytes are appended to the lines
 -- of the text.
-pub ended_go_on : (front more : List ℕ) →
-    lines_of (front ++ 10 ∷ more) ≡ lines_of (front ++ 10 ∷ []) ++ lines_of more
+pub ended_go_on : (front more : List ℕ) → lines_of (front ++ 10 ∷ more) ≡ lines_of (front ++ 10 ∷ []) ++ lines_of more
 ended_go_on [] more = refl
 ended_go_on (b ∷ front) more =
     let (line, others, some) = some_line (front ++ 10 ∷ []) (omega (arith, length-append front (10 ∷ []))) in
@@ -176,8 +175,7 @@ module _ (given got : List ℕ) (lines : List (List ℕ)) (old : Cutting) (cut :
   Divides-line line rest open_at one is more =
       HasCut-part open_at more
       ∙ rw (is, append_assoc, lines_of-feed line (rest ++ more) one)
-      (sym (append_assoc lines (line ∷ []) (lines_of (rest
-      ++ more))))
+      (sym (append_assoc lines (line ∷ []) (lines_of (rest ++ more))))
 
   -- Suppose that the line splitter has divided the bytes `given` into the lines `lines`, reads the bytes `got`, and
   -- then splits off the next line. Then `HasCut` holds for all bytes that were read (`given ++ got`), and for the lines

@@ -66,8 +66,7 @@ module _ {given : List ℕ} {old : Cutting} {H hidden : List (List ℕ)} (got : 
       (λ f known. FaultFrom-not_known hides_are_judged 0 (length H) (given ++ got) so_far.lines (old.ahead ++ got) c
       (Steps-hides so_far.lines H (length H) so_far.named refl few) part
       (⊎_elim (λ less. inl (length H + 1, λ line long. inl (less, LineFault.too_long refl long)))
-      (λ none. inr (none, refl)) unjudged)
-      f (λ more. (known more).first))
+      (λ none. inr (none, refl)) unjudged) f (λ more. (known more).first))
 
   -- Suppose that the lines that follow have a first error, and that the reader returns this error. Then this error is
   -- the first error of the hide list.

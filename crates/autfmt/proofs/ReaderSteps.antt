@@ -115,8 +115,7 @@ module _ {bounds : Bounds} {given : List ℕ} {old : Cutting} {p : Promise} {es 
       (Steps-text so_far.lines es (length es) so_far.good so_far.spelled refl few) part
       (⊎_elim (λ less. inl (length es + 2, λ line long. inl (less, LineFault.too_long refl long)))
       (λ full. inr (⊎_elim (λ less. absurd (omega arith)) (λ none. none) unjudged, grind arith))
-      (cases_lt (length es) p.transitions))
-      f (λ more. (known more).first))
+      (cases_lt (length es) p.transitions)) f (λ more. (known more).first))
 
   -- Suppose that the next line denotes a transition e, and that the source and the target of e are states of the
   -- system. Then the transitions that have been read are the transitions before this line and e.
