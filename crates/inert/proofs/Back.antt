@@ -14,7 +14,7 @@ use Rattle.inert.specs.Search.{Search, stage_at, frame_at, IsToBeRead, IsBeingSe
 use Rattle.inert.specs.Search.{Laws, item_at, BelongsTo, IsNotBelow, IsRoot, IsInternedItem, IsFrame, AreFrames}
 use Rattle.inert.specs.Search.{AreHandled, ComponentHasPair, AreOpen, IsSigned, IsSound, Root, Pair, Interned}
 use Rattle.inert.specs.Search.{is_unvisited, unseen, KeepsVisited, rest}
-use Rattle.inert.specs.SearchMoves.{HasRead, Closes, SignsMore, GoesOn}
+use Rattle.inert.specs.SearchMoves.{HasRead, Closes, SignsMore, GoesOn, Spends}
 use Rattle.inert.proofs.Invariant.{no_frame, here, last, no_root, IsBefore, AllPairs-take, All-from_take, kept_still}
 use Rattle.inert.proofs.Invariant.{KeepsStack, roots_kept, accounted_still, sound_still, AreSound, stays_on}
 use Rattle.inert.proofs.Invariant.{unseen-same, unread-same, rest-cut, reached, on_stack, not_last, last_most}
@@ -296,12 +296,8 @@ module _ (laws : Laws) {u : Under} (lts : IsLts u.l) {before signatures : List (
   closed =
       let cut = rest-cut u.visited w.frames some read in
       let frames = ap (rest u.visited) closes.frames in (
-        λ counts. record {
-          walks = SearchInvariant-closed;
-          grow = closes.listed.grow;
-          seen = closed_seen;
-          signs = closed_signs;
-          spends = omega (arith, unread-same w.stages new.stages same_unseen (remaining u), cut, frames);
-        },
+        λ counts. let spends : Spends u counts counts w new =
+            omega (arith, unread-same w.stages new.stages same_unseen (remaining u), cut, frames) in
+            search (rules, SearchInvariant-closed, closes.listed.grow, closed_seen, closed_signs, spends),
         unseen-same w.stages new.stages same_unseen closes.stages.size,
       )
