@@ -1,4 +1,4 @@
-use Rattle.std.proofs.Common.{◌∙◌, ℕ, arith, rules}
+use Rattle.std.proofs.Common.{ℕ, arith, rules}
 use Rattle.std.proofs.lemmas.Result.{IfOk-weaker}
 use Rattle.refine_core.proofs.CallerLemmas.{equal_lists}
 use Rattle.lts.specs.Meter.{Counts, Costs, CostsUpTo}
@@ -13,9 +13,6 @@ one_round old begun at least n start read = (omega arith, (1, omega arith, omega
 
 pub returns-in_err-fill-clause-err : goal.returns-in_err-fill-clause-err
 returns-in_err-fill-clause-err g c = search (rules, one_round _ _ _ _ _ c.start_round.ensures c.fill.ensures.visits)
-
-pub returns-clause-states : goal.returns-clause-states
-returns-clause-states g c = IfOk-weaker c.split.result _ _ (λ q size. size ∙ c.requires.states) c.split.ensures.states
 
 pub returns-clause-split : goal.returns-clause-split
 returns-clause-split g c =
