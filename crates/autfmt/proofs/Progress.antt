@@ -2,7 +2,8 @@
 -- The last lemmas are about labels and targets that are written to the buffer by copying an array of fixed length.
 use Rattle.std.proofs.Common.{◌≡◌, ℕ, ◌+◌, ◌<◌, List, [], ◌++◌, length, get_or, take, drop, refl, sym, ap, ◌∙◌}
 use Rattle.std.proofs.Common.{subst, Option, append_assoc, arith, inl, inr, ◌-◌, ◌≤◌, ◌∷◌, codes, decimal, ap₂}
-use Rattle.std.proofs.Common.{flat_map, length-append, append-nil, take-append-drop, take-take, length-take-le, length-drop}
+use Rattle.std.proofs.Common.{flat_map, length-append, append-nil, take-append-drop, take-take, length-take-le}
+use Rattle.std.proofs.Common.{length-drop}
 use Rattle.std.specs.Io.KnownBytes.{Appends}
 use Rattle.std.proofs.{KnownBytes.Appends-nil, KnownBytes.Appends-trans, Math.Seq.take-append-add}
 use Rattle.std.proofs.lemmas.{List.Concat.flat_map-append, Bool.cases_lt}
