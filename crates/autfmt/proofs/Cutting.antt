@@ -143,10 +143,10 @@ HasCut-end given got lines old cut none =
     cut got (λ over. none_behind old.ahead got none) ∙ ap (λ (bytes : List ℕ). lines ++ lines_of bytes) none
     ∙ append-nil lines
 
--- `Follows step now P` holds if each list of lines that may follow has the property P. The argument `step` is the result
--- of splitting off the next line, and `now` is the state of the line splitter after this. If the result is `Line`, the
--- first line that follows is `now.line`. If the result is `TooLong`, the first line that follows is any line that is too
--- long. If the result is `End`, no line follows.
+-- `Follows step now P` holds if each list of lines that may follow has the property P. The argument `step` is the
+-- result of splitting off the next line, and `now` is the state of the line splitter after this. If the result is
+-- `Line`, the first line that follows is `now.line`. If the result is `TooLong`, the first line that follows is any
+-- line that is too long. If the result is `End`, no line follows.
 abbrev pub Follows : Step → Cutting → (List (List ℕ) → Type 0) → Type 0
 Follows Line now P = (others : List (List ℕ)) → P (now.line ∷ others)
 Follows TooLong now P = (line : List ℕ) (others : List (List ℕ)) → LONGEST_LINE < length line → P (line ∷ others)

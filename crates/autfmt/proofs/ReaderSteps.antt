@@ -1,9 +1,9 @@
 -- The lemmas in this file are about the steps in which a system is read. The lemmas describe the state of the reader
 -- after each step, and justify each error that the reader returns. The last lemmas are about the result of reading a
 -- system, which is the system or an error.
-use Rattle.std.proofs.Common.{ℕ, List, ◌++◌, Option, Result, MatchResult, arith, ◌≡◌, ◌⊎◌, ⊎_elim, ◌<◌, ◌≤◌, true, false}
-use Rattle.std.proofs.Common.{[], ◌∷◌, length, Bool, None, Some, IfSome, Ok, Err, IfOk, IfErr, IsErrAnd, refl, ◌∙◌, ap, inl, inr}
-use Rattle.std.proofs.Common.{◌+◌, rules, append_assoc}
+use Rattle.std.proofs.Common.{ℕ, List, ◌++◌, Option, Result, MatchResult, arith, ◌≡◌, ◌⊎◌, ⊎_elim, ◌<◌, ◌≤◌, true}
+use Rattle.std.proofs.Common.{[], ◌∷◌, length, Bool, None, Some, IfSome, Ok, Err, IfOk, IfErr, IsErrAnd, refl, ◌∙◌, ap}
+use Rattle.std.proofs.Common.{◌+◌, false, inl, inr, rules, append_assoc}
 use Rattle.std.specs.Io.KnownBytes.{Consumes, IsAtEnd}
 use Rattle.std.proofs.KnownBytes.{Consumes-trans}
 use Rattle.std.proofs.lemmas.{Slice.Zip.all_zipped_more, Result.err_from_is_err_and}
@@ -64,7 +64,8 @@ module _ (bounds : Bounds) (got : List ℕ) (rest : Option (List ℕ)) (failures
       Follows step now (λ lines. First (texts_are_judged bounds) None lines fault) → IsTextFault fault →
       Refuses bounds got rest failures fault
   header_refused step fault made follows kind =
-      let leads = after [] got [] fresh (λ more end. refl) step now (λ lines. First (texts_are_judged bounds) None lines fault) made follows in
+      let leads = after [] got [] fresh (λ more end. refl) step now
+      (λ lines. First (texts_are_judged bounds) None lines fault) made follows in
       faulty_text sound kind (if_revealed (λ text. FirstFault bounds text fault) got rest end (λ more end.
       let (lines, l, bad) = leads more end in record { first = rw l bad }))
 
@@ -134,7 +135,8 @@ module _ {bounds : Bounds} {given : List ℕ} {old : Cutting} {p : Promise} {es 
   -- the first error of the input.
   pub transition_refused : {found : ℕ} {over : Bool} {rest : Option (List ℕ)} {failures : ℕ} (fault : Fault) →
       found ≡ length es → found ≤ p.transitions → failures ≡ 0 → (over ≡ true → IsAtEnd rest) → IsTextFault fault →
-      LeadsTo (given ++ got) before over (λ lines. First (texts_are_judged bounds) (Some (p.transitions, p.states, found)) lines fault) →
+      LeadsTo (given ++ got) before over
+      (λ lines. First (texts_are_judged bounds) (Some (p.transitions, p.states, found)) lines fault) →
       Refuses bounds (given ++ got) rest failures fault
   transition_refused {found = found} {rest = rest} fault count few sound end kind leads =
       faulty_text sound kind (if_revealed (λ text. FirstFault bounds text fault) (given ++ got) rest end (λ more end.

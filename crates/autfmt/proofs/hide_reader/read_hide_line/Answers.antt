@@ -25,7 +25,8 @@ returns-in-TooLong-clause-line g c =
       s.0,
       s.1,
       λ given H so_far count. hide_refused s.0 so_far _ count (omega arith) c.in_ok-advance.ensures.failures end tt
-          (after given s.0 so_far.lines c.args.cutter.now so_far.cut TooLong c.advance.new.self _ s.2 (λ line others big. inl (inl (few, too_long refl big)))),
+          (after given s.0 so_far.lines c.args.cutter.now so_far.cut TooLong c.advance.new.self _ s.2
+          (λ line others big. inl (inl (few, too_long refl big)))),
     )
 
 pub returns-in-End-clause-line : goal.returns-in-End-clause-line
@@ -44,7 +45,8 @@ returns-in_err-label-clause-line g c =
       s.1,
       λ given H so_far count. returns_error _ _ _ c.from_residual-in_err-label.ensures.1
           (hide_refused s.0 so_far _ count (omega arith) c.in_ok-advance.ensures.failures end
-          c.in_err-label.ensures.kind (after given s.0 so_far.lines c.args.cutter.now so_far.cut Line c.advance.new.self _ s.2 (λ others. inl (inl (few, bad))))),
+          c.in_err-label.ensures.kind (after given s.0 so_far.lines c.args.cutter.now so_far.cut Line c.advance.new.self
+          _ s.2 (λ others. inl (inl (few, bad))))),
     )
 
 pub returns-clause-line : goal.returns-clause-line

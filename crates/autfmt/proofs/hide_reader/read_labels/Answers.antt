@@ -52,7 +52,8 @@ returns-then-not-at_end g c =
     let (last, took, look) = rw c.if-not-at_end.true at c.in_ok-at_end.ensures.look in
     takes_more _ before last taken took
     (hide_refused last so_far _ count (omega arith) c.in_ok-at_end.ensures.failures (λ over. absurd cc) tt
-    (more_lines before last so_far.lines c.loop-found.cutter so_far.cut false _ (look.3 refl) (λ line others. inl (inr (omega arith, refl)))))
+    (more_lines before last so_far.lines c.loop-found.cutter so_far.cut false _ (look.3 refl)
+    (λ line others. inl (inr (omega arith, refl)))))
 
 pub returns : goal.returns
 returns g c =

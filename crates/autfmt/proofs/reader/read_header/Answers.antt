@@ -15,8 +15,8 @@ returns-in_err-advance-clause-header g c =
       took = s.1;
       outcome = returns_error _ _ _ c.from_residual.ensures.1
           (failed_source c.in_err-advance.ensures.failures refl
-          (λ f known. FaultFrom-not_known (texts_are_judged c.args.lim.now) None None s.0 [] s.0 (λ more. refl) refl s.2.1
-          (inl (1, λ line long. too_long refl long)) f (λ more. (known more).first)));
+          (λ f known. FaultFrom-not_known (texts_are_judged c.args.lim.now) None None s.0 [] s.0 (λ more. refl) refl
+          s.2.1 (inl (1, λ line long. too_long refl long)) f (λ more. (known more).first)));
     }
 
 pub returns-in-TooLong-clause-header : goal.returns-in-TooLong-clause-header
@@ -26,8 +26,8 @@ returns-in-TooLong-clause-header g c =
     record {
       given = s.0;
       took = s.1;
-      outcome = header_refused _ s.0 _ _ c.advance.new.self c.in_ok-advance.ensures.failures (end (λ over. absurd cc)) TooLong _
-          s.2 (λ line others big. inl (too_long refl big)) tt;
+      outcome = header_refused _ s.0 _ _ c.advance.new.self c.in_ok-advance.ensures.failures (end (λ over. absurd cc))
+          TooLong _ s.2 (λ line others big. inl (too_long refl big)) tt;
     }
 
 pub returns-clause-header : goal.returns-clause-header
@@ -37,7 +37,7 @@ returns-clause-header g c =
     record {
       given = s.0;
       took = s.1;
-      outcome = header_answer _ s.0 _ _ c.advance.new.self c.in_ok-advance.ensures.failures (end (λ over. absurd cc)) _ s.2
-          (rw c.line.ensures at c.judge_header.ensures.good) (rw c.line.ensures at c.judge_header.ensures.fault)
+      outcome = header_answer _ s.0 _ _ c.advance.new.self c.in_ok-advance.ensures.failures (end (λ over. absurd cc)) _
+          s.2 (rw c.line.ensures at c.judge_header.ensures.good) (rw c.line.ensures at c.judge_header.ensures.fault)
           c.judge_header.ensures.kind;
     }

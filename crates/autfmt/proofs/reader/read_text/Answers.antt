@@ -47,7 +47,8 @@ returns-then-not-at_end-clause-whole g c =
     let count = sym c.in_ok-held.ensures.len ∙ Holds-length _ _ _ es now.1 in
     takes_more _ front last taken took
     (transition_refused last now.0 _ count (omega arith) c.in_ok-at_end.ensures.failures (λ over. absurd cc) tt
-    (more_lines front last (now.0.header ∷ now.0.lines) c.read_transitions.new.cutter now.0.cut false _ (look.3 refl) (λ line others. inl (inr (omega arith, refl)))))
+    (more_lines front last (now.0.header ∷ now.0.lines) c.read_transitions.new.cutter now.0.cut false _ (look.3 refl)
+    (λ line others. inl (inr (omega arith, refl)))))
 
 pub returns-clause-whole : goal.returns-clause-whole
 returns-clause-whole g c =
@@ -56,5 +57,6 @@ returns-clause-whole g c =
     let count = sym c.in_ok-held.ensures.len ∙ Holds-length _ _ _ es now.1 in
     let old = c.read_transitions.new.cutter in
     let l = HasCut-end front last (now.0.header ∷ now.0.lines) old now.0.cut (look.2 refl) in
-    let read = Reads-from_lines _ (front ++ last) now.0.header now.0.lines _ _ _ es l now.0.good now.0.spelled (sym count) in
+    let read = Reads-from_lines _ (front ++ last) now.0.header now.0.lines _ _ _ es l now.0.good now.0.spelled
+    (sym count) in
     takes_more _ front last taken took (es, read, now.1)

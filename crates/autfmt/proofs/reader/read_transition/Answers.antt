@@ -28,7 +28,8 @@ returns-in-TooLong-clause-transition g c =
       λ bounds given es standing.
           let count = c.len-found.ensures ∙ Holds-length _ _ _ es standing.1 in
           transition_refused s.0 standing.0 _ count (omega arith) c.in_ok-advance.ensures.failures end tt
-          (after given s.0 (standing.0.header ∷ standing.0.lines) c.args.cutter.now standing.0.cut TooLong c.advance.new.self _ s.2
+          (after given s.0 (standing.0.header ∷ standing.0.lines) c.args.cutter.now standing.0.cut TooLong
+          c.advance.new.self _ s.2
           (λ line others big. inl (inl (omega arith, too_long refl big)))),
     )
 
@@ -41,7 +42,8 @@ returns-in-End-clause-transition g c =
       λ bounds given es standing.
           let count = c.len-found.ensures ∙ Holds-length _ _ _ es standing.1 in
           transition_refused s.0 standing.0 _ count (omega arith) c.in_ok-advance.ensures.failures end tt
-          (after given s.0 (standing.0.header ∷ standing.0.lines) c.args.cutter.now standing.0.cut End c.advance.new.self _ s.2 (end_fault-missing _ c.args.promise.states _ (omega arith))),
+          (after given s.0 (standing.0.header ∷ standing.0.lines) c.args.cutter.now standing.0.cut End
+          c.advance.new.self _ s.2 (end_fault-missing _ c.args.promise.states _ (omega arith))),
     )
 
 pub returns-in_err-read-clause-transition : goal.returns-in_err-read-clause-transition
@@ -56,7 +58,8 @@ returns-in_err-read-clause-transition g c =
           returns_error _ _ _ c.from_residual-in_err-read.ensures.1
           (transition_refused s.0 standing.0 _ count (omega arith) c.in_ok-advance.ensures.failures end
           c.in_err-read.ensures.kind
-          (after given s.0 (standing.0.header ∷ standing.0.lines) c.args.cutter.now standing.0.cut Line c.advance.new.self _ s.2 (λ others. inl (inl (omega arith, bad))))),
+          (after given s.0 (standing.0.header ∷ standing.0.lines) c.args.cutter.now standing.0.cut Line
+          c.advance.new.self _ s.2 (λ others. inl (inl (omega arith, bad))))),
     )
 
 pub returns-in_err-add-clause-transition : goal.returns-in_err-add-clause-transition
@@ -67,7 +70,8 @@ returns-in_err-add-clause-transition g c =
       s.1,
       λ bounds given es standing. returns_error _ _ _ c.from_residual-in_err-add.ensures.1
           (no_memory_behind (standing.0.lines ++ c.advance.new.self.line ∷ []) c.advance.new.self
-          (HasCut-line given s.0 (standing.0.header ∷ standing.0.lines) c.args.cutter.now standing.0.cut _ s.2) standing.0.good
+          (HasCut-line given s.0 (standing.0.header ∷ standing.0.lines) c.args.cutter.now standing.0.cut _ s.2)
+          standing.0.good
           c.in_ok-advance.ensures.failures end),
     )
 

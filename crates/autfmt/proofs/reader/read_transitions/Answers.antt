@@ -44,7 +44,8 @@ returns-in_err-read_usual-clause-transitions g c =
       taken,
       λ bounds given standing.
           let now = (so_far bounds given standing).1.0 in
-          returns_error _ _ _ c.from_residual.ensures.1 (no_memory_behind now.lines c.loop-found.cutter now.cut now.good source.sound source.end),
+          returns_error _ _ _ c.from_residual.ensures.1
+          (no_memory_behind now.lines c.loop-found.cutter now.cut now.good source.sound source.end),
     )
 
 pub loop-found-preserved : goal.loop-found-preserved
