@@ -10,19 +10,11 @@ returns-clause-blocks c =
     let split = rw (c.deref.ensures.value, c.in_ok-blocks.ensures.block_ids) at c.in_ok-parts.ensures.splits in
     let each = c.self.invariant.0 in
     let long = ap length c.self.view_is in
+    let size = c.requires.states in
+    let parts = c.block_ids.ensures.block_ids in
+    let states = split.states in
     IfOk-weaker c.renumber.result _ _ (λ q same s t h k.
     let equal = c.len.ensures.interned.different (slice_index ids s) (slice_index ids t) in
-    rw (← c.self.view_is) (grind (
-      arith,
-      length-map,
-      get_or-map,
-      same s t,
-      split.alike s t,
-      equal,
-      each s 0,
-      each t 0,
-      split.states,
-      long,
-      c.requires.states,
-      c.block_ids.ensures.block_ids,
-    ))) c.renumber.ensures.same
+    rw (← c.self.view_is)
+    (grind (arith, length-map, get_or-map, same s t, split.alike s t, equal, each s 0, each t 0, size, parts, long)))
+    c.renumber.ensures.same
