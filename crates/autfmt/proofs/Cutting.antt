@@ -126,8 +126,9 @@ line_grows (b ∷ given) more =
     ]
 
 -- ---- The line splitter
--- `HasCut` says that the line splitter (`Cutter`) has divided the bytes that were read from the input into lines. There
--- is one lemma about `HasCut` for each result that a call of the line splitter may have.
+-- `HasCut` says that the line splitter (`Cutter`) has divided the bytes that were read from the input into lines. The
+-- lemmas about `HasCut` state which lines follow, and how the bytes are divided into lines, after a call of the line
+-- splitter.
 
 -- If two lists together are empty, then the second list is empty.
 none_behind : (xs ys : List ℕ) → xs ++ ys ≡ [] → ys ≡ []
