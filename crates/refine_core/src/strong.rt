@@ -134,7 +134,7 @@ fn intern_signature<M: Meter>(
 /// transition, but the meter does not count this read. This is the only difference from the function `read`: when
 /// `read` reads a transition, the meter always counts this read.
 #[inline(always)]
-#[tactic(auto, using(lts::proofs::CallerLemmas::left_none))]
+#[tactic(auto, using(lts::proofs::CallerLemmas::left_none, lts::proofs::CallerLemmas::row_left))]
 fn read_unvisited<M: Meter>(
     under: &NewBlocks<M>,
     visited: &Visited,

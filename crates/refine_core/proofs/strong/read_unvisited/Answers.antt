@@ -1,6 +1,5 @@
 use Rattle.std.proofs.Common.{◌<◌, ◌≤◌, rules, arith}
 use Rattle.std.proofs.lemmas.Grind.{common_steps}
-use Rattle.lts.specs.Visited.{price_between}
 use Rattle.lts.proofs.CallerLemmas.{row_left, price_first, price_split, price_one_more}
 use Rattle.refine_core.proofs.strong.read_unvisited.Goals as goal
 
@@ -28,7 +27,3 @@ loop-k-preserved g c =
       affected = c.collect-affected.ensures.affected;
       visits = omega (arith, i.visits, c.edge-transition.ensures.visit, price_one_more c.args.visited.now start k from);
     }
-
-pub returns-clause-visits : goal.returns-clause-visits
-returns-clause-visits g c =
-    search (rules, row_left, price_between, c.row-start.ensures, c.loop-k-test.false, c.loop-k.invariant.visits)
