@@ -42,8 +42,8 @@ found_fault words e (fault.Usage text) among is =
     inr (some_kind (λ kind. ¬ IsHelp kind) (kind_of e) (fault_of program_app words) among is)
 found_fault words e fault.Memory among is = tt
 
--- The contracts of `clap` hold only for simple descriptions of a command line (`is_simple`). The prover computes that the
--- description `program_app` is simple.
+-- The contracts of `clap` hold only for simple descriptions of a command line (`is_simple`). The prover computes that
+-- the description `program_app` is simple.
 pub returns-in-Ok : goal.returns-in-Ok
 returns-in-Ok c =
     let words_are : c.as_slice.result.now ≡ c.args.words.items = search rules in
