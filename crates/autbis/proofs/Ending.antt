@@ -11,7 +11,7 @@ use Rattle.autfmt.specs.{Outcomes.Refuses, Readers.IsTextFault, Written.listed}
 use Rattle.autfmt.specs.declared.fault.Fault.{Fault}
 use Rattle.autfmt.specs.declared.fault.Fault.TheVariants.{Device, Memory}
 use Rattle.autfmt.specs.Outcomes.Refuses.{faulty_text, failed_source, no_memory as refused_memory}
-use Rattle.autfmt.proofs.FaultLaws.{Reads-no_fault}
+use Rattle.autfmt.proofs.CallerLemmas.{Reads-no_fault}
 use Rattle.autbis.specs.{declared.compare.CmpFault.CmpFault, declared.run.Counts.Counts as Sizes, Ends.Contents}
 use Rattle.autbis.specs.{Ends.EndsRun, Ends.HasFaultyText, Ends.IsAnswer, Ends.OfText, Ends.Contents.one}
 use Rattle.autbis.specs.{Ends.Contents.two, Opened.AreAsRevealed, Reports.ShowsCountsOf, Reports.status_of}

@@ -9,9 +9,8 @@ use Rattle.std.proofs.lemmas.List.Sorted.{IsPermutation-sym}
 use Rattle.std.specs.Io.KnownBytes.{Consumes, IsAtEnd}
 use Rattle.theory.specs.{System.System, System.Hide, Bisimulation.Equivalent, declared.relation.Relation.Relation}
 use Rattle.theory.specs.{Blocks.Turns, Alike.SameSteps, Union.union_of}
-use Rattle.theory.proofs.AlikeSystems.{same_steps_refl, same_steps_sym, same_steps_permuted, bisimilar_alike, turns_alike}
-use Rattle.theory.proofs.AlikeQuotients.{quotient_alike, quotient_reordered}
-use Rattle.theory.proofs.{AlikeUnions.unions_alike, Comparing.equivalent_alike_both as equivalent_alike}
+use Rattle.theory.proofs.CallerLemmas.{same_steps_refl, same_steps_sym, same_steps_permuted, bisimilar_alike, turns_alike}
+use Rattle.theory.proofs.CallerLemmas.{equivalent_alike, quotient_alike, quotient_reordered, unions_alike}
 use Rattle.lts.specs.{Lts.Grouped, Lts.system_of, Meter.Counts}
 use Rattle.quotient.specs.Visits.{StaysWithin, quotient_passes, union_passes}
 use Rattle.autfmt.specs.{Bounds.Bounds, Outcomes.ReadsTo, Outcomes.Takes, Written.IsInWrittenOrder}

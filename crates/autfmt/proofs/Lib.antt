@@ -1,3 +1,4 @@
+pub mod CallerLemmas
 pub mod Lists
 pub mod Tokens
 pub mod Labels

@@ -4,7 +4,7 @@ use Rattle.std.proofs.Common.{◌≡◌, ◌↔◌, ℕ, zero, suc, ◌<◌, Lis
 use Rattle.std.specs.List.Sorted.{IsPermutation}
 use Rattle.std.proofs.lemmas.List.Sorted.{IsPermutation-sym, Contains-permutation}
 use Rattle.theory.specs.System.{System, Transition, Internal, AnyStep, Leads, Silent, Reachable, internal}
-use Rattle.theory.specs.Bisimulation.{Matches, IsBisimulation, Pairs, Bisimilar, Equivalent}
+use Rattle.theory.specs.Bisimulation.{Matches, IsBisimulation, Pairs, Bisimilar}
 use Rattle.theory.specs.declared.relation.Relation.{Relation}
 use Rattle.theory.specs.declared.relation.Relation.TheVariants.{Strong, Branching}
 use Rattle.theory.specs.Blocks.{Inert, Signature, SameSignature, EachTwo, Split, After, ChangesNothing, Turns}
@@ -82,11 +82,6 @@ pub bisimilar_alike : (rel : Relation) (A B C D : System) (s t : ℕ) → SameSt
     → Bisimilar rel A s C t → Bisimilar rel B s D t
 bisimilar_alike rel A B C D s t one other (pairs, meets, related) =
     (pairs, bisimulation_alike rel A B C D one other (Pairs pairs) meets, related)
-
-pub equivalent_alike : (rel : Relation) (A B C : System) → SameSteps A B → Equivalent rel A C → Equivalent rel B C
-equivalent_alike rel A B C same b =
-    subst (λ x. Bisimilar rel B x C C.first) same.first
-    (bisimilar_alike rel A B C C A.first C.first same (same_steps_refl C) b)
 
 -- Suppose that two systems have the same steps, and that their states are divided into the same blocks. Then each state
 -- has the same signature in both systems.

@@ -11,6 +11,10 @@ pub use Rattle.theory.proofs.Showing.{all_made}
 pub use Rattle.theory.proofs.Tally.{how_many_unique}
 pub use Rattle.theory.proofs.Determined.{same_states, same_transitions}
 pub use Rattle.theory.proofs.BothRelations.{strong_is_branching, branching_is_strong}
-pub use Rattle.theory.proofs.AlikeSystems.{SameSignatures, same_signatures_turns}
-pub use Rattle.theory.proofs.AlikeQuotients.{quotient_reordered}
+pub use Rattle.theory.proofs.AlikeSystems.{same_steps_refl, same_steps_sym, same_steps_permuted, bisimilar_alike}
+pub use Rattle.theory.proofs.AlikeSystems.{turns_alike, SameSignatures, same_signatures_turns}
+pub use Rattle.theory.proofs.AlikeQuotients.{quotient_alike, quotient_reordered}
+pub use Rattle.theory.proofs.AlikeUnions.{unions_alike}
+pub use Rattle.theory.proofs.Comparing.{equivalent_alike}
+pub use Rattle.theory.proofs.QuotientLaws.{quotient_system}
 pub use Rattle.theory.proofs.Unaffected.{empty_before, still_stays, reach_found}

@@ -100,8 +100,8 @@ module _ (rel : Relation) (A B C : System) where
 
 -- Let A and B have the same steps, and let C and D have the same steps. If A and C are equivalent, then B and D are
 -- equivalent.
-pub equivalent_alike_both : (rel : Relation) (A B C D : System) → SameSteps A B → SameSteps C D → Equivalent rel A C →
+pub equivalent_alike : (rel : Relation) (A B C D : System) → SameSteps A B → SameSteps C D → Equivalent rel A C →
     Equivalent rel B D
-equivalent_alike_both rel A B C D one other b =
+equivalent_alike rel A B C D one other b =
     subst₂ (λ x y. Bisimilar rel B x D y) one.first other.first
     (bisimilar_alike rel A B C D A.first C.first one other b)

@@ -6,7 +6,6 @@
 #![tactic(auto)]
 
 mod across;
-mod alike;
 mod fixpoint;
 mod inert;
 mod laws;
@@ -15,7 +14,6 @@ mod relation;
 mod unions;
 
 pub use across::{bisimilarity_goes_across, strong_and_branching, systems_are_compared};
-pub use alike::the_order_does_not_matter;
 pub use fixpoint::{
     bisimilarity_is_an_equivalence, final_blocks_are_bisimilarity, refinement_goes_on,
     related_to_one_state_share, split_exists, turns_exist,
@@ -24,11 +22,10 @@ pub use inert::{inert_steps_lead_on, inert_steps_pass_signatures_back, inert_ste
 pub use laws::{bisimulations_survive, one_block_is_kept, splitting_keeps, stable_is_bisimulation};
 pub use minimal::{
     each_state_has_a_number, leaders_differ, no_smaller_system, numbers_are_classes,
-    numbers_are_states, quotient_is_a_system, quotient_is_equivalent, quotient_states_differ,
+    numbers_are_states, quotient_is_equivalent, quotient_states_differ,
     states_are_bisimilar_to_their_numbers, the_quotient_is_one,
 };
 pub use relation::Relation;
 pub use unions::{
-    the_order_does_not_matter_side_by_side, the_union_decides_equivalence, the_union_is_a_system,
-    the_union_keeps_bisimilarity,
+    the_union_decides_equivalence, the_union_is_a_system, the_union_keeps_bisimilarity,
 };

@@ -2,7 +2,7 @@
 //! quotient is equivalent to the system, contains no two bisimilar states, and has the fewest states of all equivalent
 //! systems.
 
-ghost use Rattle.std.specs.Prelude.{◌≡◌, ◌↔◌, ℕ, ◌<◌, ◌≤◌, List};
+ghost use Rattle.std.specs.Prelude.{◌≡◌, ◌↔◌, ℕ, ◌<◌, ◌≤◌};
 ghost use Rattle.std.specs.List.{Contains};
 ghost use Rattle.theory.specs.System.{System, Transition, IsSystem, Reachable};
 ghost use Rattle.theory.specs.Bisimulation.{Bisimilar, Equivalent};
@@ -57,11 +57,6 @@ pub fn the_quotient_is_one()
     ensures transitions { (rel : Relation) (A Q R : System) (e : Transition) →
         Quotient rel A Q → Quotient rel A R →
         Contains Q.transitions e ↔ Contains R.transitions e }
-{}
-
-/// If A is a well-formed system, its quotient is a well-formed system.
-pub fn quotient_is_a_system()
-    ensures { (rel : Relation) (A Q : System) → IsSystem A → Quotient rel A Q → IsSystem Q }
 {}
 
 /// The quotient of a system is equivalent to the system.

@@ -56,14 +56,3 @@ pub fn the_union_decides_equivalence()
         Turns rel U k → Turns rel (union_of A B) k }
     ensures same { (A B : System) → A ≡ B → SameSteps A B }
 {}
-
-/// Reordering the transitions of two systems does not change whether the systems are equivalent. It does not change the
-/// number of splits that refinement makes for their union, either.
-pub fn the_order_does_not_matter_side_by_side()
-    ensures steps { (A B C D : System) → SameSteps A B → SameSteps C D →
-        SameSteps (union_of A C) (union_of B D) }
-    ensures turns { (rel : Relation) (A B C D : System) (k : ℕ) → SameSteps A B → SameSteps C D →
-        Turns rel (union_of A C) k → Turns rel (union_of B D) k }
-    ensures equivalent { (rel : Relation) (A B C D : System) → SameSteps A B → SameSteps C D →
-        Equivalent rel A C → Equivalent rel B D }
-{}

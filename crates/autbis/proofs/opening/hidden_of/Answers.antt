@@ -1,7 +1,7 @@
 use Rattle.std.proofs.Common.{◌∙◌, ap, inr, rules}
 use Rattle.autfmt.specs.HideReaders.{IsHideFault}
 use Rattle.autfmt.specs.HideOutcomes.HideRefuses.{faulty_text, failed_source, no_memory as refused_memory}
-use Rattle.autfmt.proofs.FaultLaws.{HideReads-no_fault}
+use Rattle.autfmt.proofs.CallerLemmas.{HideReads-no_fault}
 use Rattle.autbis.specs.Reports.{status_of}
 use Rattle.autbis.specs.Jobs.HideListFails.{list_failed, no_memory, list_faulty}
 use Rattle.autbis.proofs.{Ending.revealed_is_faulty, Ending.revealed_then, Ending.text_status, InOrder.all_closed}

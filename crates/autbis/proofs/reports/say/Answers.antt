@@ -1,6 +1,6 @@
 use Rattle.std.proofs.Common.{◌++◌, take}
 use Rattle.std.proofs.KnownBytes.{Appends-trans}
-use Rattle.autfmt.proofs.Lists.{front_more}
+use Rattle.autfmt.proofs.CallerLemmas.{front_more}
 use Rattle.autbis.proofs.reports.say.Goals as goal
 
 pub loop-rest-preserved : goal.loop-rest-preserved

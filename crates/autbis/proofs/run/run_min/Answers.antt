@@ -1,10 +1,10 @@
 use Rattle.std.proofs.Common.{rules, ◌∙◌, ℕ, ap₂, inl, inr, refl, sym, arith}
 use Rattle.std.proofs.lemmas.{List.length-map}
 use Rattle.theory.specs.System.{System}
-use Rattle.theory.proofs.{QuotientLaws.quotient_system, AlikeSystems.turns_alike}
+use Rattle.theory.proofs.CallerLemmas.{quotient_system, turns_alike}
 use Rattle.lts.specs.Lts.{transition_of, system_of}
 use Rattle.autfmt.specs.{declared.fault.Fault.TheVariants.Memory, Written.IsInWrittenOrder}
-use Rattle.autfmt.proofs.ReadBack.{text_is_read_again}
+use Rattle.autfmt.proofs.CallerLemmas.{text_is_read_again}
 use Rattle.autbis.specs.{declared.run.Counts.Counts, Runs.MinimisedText, Runs.asks}
 use Rattle.autbis.specs.Runs.MinimisationFails.{out_of_memory, not_written}
 use Rattle.autbis.proofs.{run.run_min.Given.Over, run.run_min.Goals.After-write}
