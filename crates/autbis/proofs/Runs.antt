@@ -9,8 +9,8 @@ use Rattle.std.proofs.lemmas.List.Sorted.{IsPermutation-sym}
 use Rattle.std.specs.Io.KnownBytes.{Consumes, IsAtEnd}
 use Rattle.theory.specs.{System.System, System.Hide, Bisimulation.Equivalent, declared.relation.Relation.Relation}
 use Rattle.theory.specs.{Blocks.Turns, Alike.SameSteps, Union.union_of}
-use Rattle.theory.proofs.CallerLemmas.{same_steps_refl, same_steps_sym, same_steps_permuted, bisimilar_alike, turns_alike}
-use Rattle.theory.proofs.CallerLemmas.{equivalent_alike, quotient_alike, quotient_reordered, unions_alike}
+use Rattle.theory.proofs.CallerLemmas.{same_steps_refl, same_steps_sym, same_steps_permuted, bisimilar_alike}
+use Rattle.theory.proofs.CallerLemmas.{turns_alike, equivalent_alike, quotient_alike, quotient_reordered, unions_alike}
 use Rattle.lts.specs.{Lts.Grouped, Lts.system_of, Meter.Counts}
 use Rattle.quotient.specs.Visits.{StaysWithin, quotient_passes, union_passes}
 use Rattle.autfmt.specs.{Bounds.Bounds, Outcomes.ReadsTo, Outcomes.Takes, Written.IsInWrittenOrder}
@@ -36,7 +36,8 @@ passes Good Bad r e is bad = let exit = err_from_is_err_and r is in rw (exit.1, 
 -- if the contract of the source does not state these contents.
 pub of_all : (old new : Option (List ℕ)) (given : List ℕ) (P : List ℕ → Type 0) → Consumes old new given → IsAtEnd new →
     P given → OfText old P
-of_all old new given P took at_end h = (given, Consumes-whole old new given (λ bytes. bytes ≡ given) took at_end refl, h)
+of_all old new given P took at_end h =
+    (given, Consumes-whole old new given (λ bytes. bytes ≡ given) took at_end refl, h)
 
 module _ {n k m j passes : ℕ} {at : Counts} (states : n ≡ k) (transitions : m ≡ j) where
   -- Suppose that two systems have the same number of states and the same number of transitions. If the numbers of

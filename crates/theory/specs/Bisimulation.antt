@@ -9,8 +9,7 @@ use Rattle.theory.specs.declared.relation.Relation.TheVariants.{Strong as strong
 -- each step of the state s of A. This means that B has a step from t with the same label, and that R relates the
 -- targets of the two steps (Milner 1989).
 abbrev pub StronglyMatches : System → System → (ℕ → ℕ → Type 0) → ℕ → ℕ → Type 0
-StronglyMatches A B R s t =
-    (a : List ℕ) (s' : ℕ) → Step A s a s' → (t' : ℕ) × Step B t a t' × R s' t'
+StronglyMatches A B R s t = (a : List ℕ) (s' : ℕ) → Step A s a s' → (t' : ℕ) × Step B t a t' × R s' t'
 
 -- Let R be a relation between the states of A and the states of B. `BranchingMatches` holds if the state s of B matches
 -- each step of the state r of A in the sense of branching bisimulation (van Glabbeek and Weijland 1996). A step with

@@ -20,10 +20,10 @@ returns-in_err-quotient-clause-outcome g c =
     takes_error Memory got.given c.from_residual-in_err-quotient.ensures.1 got.took
     (out_of_memory (has_read got.outcome c.in_err-quotient.ensures.keeps) refl c.requires.sink)
 
--- `to` proves that the input was correct, and that `listing` is the minimised system for this input. The input describes
--- a system, and the labels to hide are then hidden in this system. The system in memory differs from the resulting
--- system only in the order of its transitions. Therefore results about the system in memory hold for the resulting
--- system as well.
+-- `to` proves that the input was correct, and that `listing` is the minimised system for this input. The input
+-- describes a system, and the labels to hide are then hidden in this system. The system in memory differs from the
+-- resulting system only in the order of its transitions. Therefore results about the system in memory hold for the
+-- resulting system as well.
 abbrev to : (g : Over) (c : After-write g) (listing : System) →
     IsInWrittenOrder (system_of c.in_ok-quotient.quotient) listing →
     MinimisedText (asks c.args.rel c.args.lim.now c.args.h.now) c.in_ok-system.ensures.outcome.given
