@@ -1,7 +1,8 @@
 -- The lemmas in this file are about a run, which is a minimisation or a comparison. Some lemmas say that a run may
 -- return the error of a call that failed within the run. Other lemmas say that facts about a system in memory also hold
 -- for the system that the input describes, after the labels to hide have been hidden in it. These two systems differ
--- only in the order of their transitions.
+-- only in the order of their transitions. The lemma `of_all` is about the contents of a source that was read to its
+-- end.
 use Rattle.std.proofs.Common.{rules, ◌≡◌, ◌↔◌, ℕ, ◌+◌, ◌*◌, Bool, IsTrue, List, Option, Result, IsErrAnd, length}
 use Rattle.std.proofs.Common.{MatchResult, ap₂, refl}
 use Rattle.std.proofs.{KnownBytes.Consumes-whole, lemmas.Result.err_from_is_err_and}

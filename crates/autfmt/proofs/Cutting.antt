@@ -154,7 +154,8 @@ Follows TooLong now P = (line : List ℕ) (others : List (List ℕ)) → LONGEST
 Follows End now P = P []
 
 -- `LeadsTo given lines over P` holds if every input that begins with the bytes `given` consists of the lines `lines`,
--- followed by lines with the property P. If the input has ended (`over`), this must hold only for the input `given`.
+-- followed by a list of lines with the property P. If the input has ended (`over`), this must hold only for the input
+-- `given`.
 abbrev pub LeadsTo : List ℕ → List (List ℕ) → Bool → (List (List ℕ) → Type 0) → Type 0
 LeadsTo given lines over P = (more : List ℕ) → (over ≡ true → more ≡ []) →
     (others : List (List ℕ)) × Lines (given ++ more) (lines ++ others) × P others
@@ -194,7 +195,7 @@ module _ (given got : List ℕ) (lines : List (List ℕ)) (old : Cutting) (cut :
 
   -- Suppose that the line splitter has divided the bytes `given` into the lines `lines`, and reads the bytes `got` to
   -- split off the next line. If each list of lines that may follow has the property P (`Follows`), then the lines
-  -- `lines` are followed by lines with the property P.
+  -- `lines` are followed by a list of lines with the property P (`LeadsTo`).
   pub after : (step : Step) (now : Cutting) (P : List (List ℕ) → Type 0) → Makes old.over (old.ahead ++ got) step now →
       Follows step now P → LeadsTo (given ++ got) lines now.over P
   after Line now P made follows more end =

@@ -1,7 +1,8 @@
 -- Every input denotes exactly one system, or has exactly one first error, which is the error that is reported. No input
 -- denotes a system and has a first error. The same is true of hide lists (files with one label to hide on each line),
 -- which can be read in exactly one way or have exactly one first error. The lemmas of `proofs/FirstFaults` apply to
--- both, because each line is correct or has exactly one error.
+-- both, because each line is correct or has exactly one error. If the bytes that have been read end with a line feed,
+-- they already show the first error of the whole input, unless this error is that transitions are missing.
 use Rattle.std.proofs.Common.{◌≡◌, ◌⊎◌, ⊎_elim, ℕ, ◌+◌, ◌<◌, ◌≤◌, List, [], ◌∷◌, ◌++◌, length, None, Some, refl, sym}
 use Rattle.std.proofs.Common.{◌∙◌, inl, inr, arith, length-append}
 use Rattle.std.specs.{List.AllZip, Prelude.nat_lt}

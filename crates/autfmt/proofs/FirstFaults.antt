@@ -27,8 +27,8 @@ none_or_some (Some x) = inr (x, refl)
 -- ---- The error of a line
 
 -- `IsJudged Good Bad` holds if a line either is correct or has exactly one error. `Good x` states that the line is
--- correct and has the contents x, and `Bad f` states that f is the error of the line. A correct line has exactly one
--- contents.
+-- correct and has the contents x, and `Bad f` states that f is the error of the line. There must not be two different
+-- values x with `Good x`.
 pub record IsJudged {X : Type 0} (Good : X → Type 0) (Bad : Fault → Type 0) : Type 0 where
   pub one : (x y : X) → Good x → Good y → x ≡ y
   pub one_fault : (f g : Fault) → Bad f → Bad g → f ≡ g
@@ -73,8 +73,9 @@ LineFault-lasts {line = line} tail f lasts not_bad not_in (too_long e long) =
 LineFault-lasts tail f lasts not_bad not_in (unread e short none) = absurd (not_bad (subst Lasts e lasts))
 LineFault-lasts tail f lasts not_bad not_in (wrong x short is e) = absurd (not_in x e lasts)
 
--- Suppose that a line either is correct or has exactly one error, and that each contents x of a correct line determines
--- the value `value x`. Then this still holds if the values take the place of the contents.
+-- Suppose that a line either is correct or has exactly one error. Suppose also that `Valued y` holds if and only if y
+-- is the value `value x` for the contents x of a correct line. Then `IsJudged` also holds with the values in place of
+-- the contents.
 pub IsJudged-map : {X Y : Type 0} {Good : X → Type 0} {Bad : Fault → Type 0} {Valued : Y → Type 0} (value : X → Y) →
     IsJudged Good Bad → ((x : X) → Good x → Valued (value x)) →
     ((y : Y) → Valued y → (x : X) × Good x × (y ≡ value x)) → IsJudged Valued Bad
@@ -110,8 +111,9 @@ abbrev pub Steps : {S : Type 0} → (S → List ℕ → S → Type 0) → S → 
 Steps Good before [] after = before ≡ after
 Steps {S = S} Good before (line ∷ others) after = (next : S) × Good before line next × Steps Good next others after
 
--- Assume that at most `most` lines of a certain kind are allowed, and that `state i` describes the lines of an input up
--- to i such lines. Assume also that `IsLine line x` states that such a line is correct and has the contents x.
+-- Assume that an input may contain at most `most` lines of a certain kind, and that `state i` describes the first lines
+-- of an input, of which the last i lines are of this kind. Assume also that a line is correct after these lines if and
+-- only if i is less than `most` and the line has some contents x (`IsLine line x`).
 module _ {S X : Type 0} (Good : S → List ℕ → S → Type 0) (IsLine : List ℕ → X → Type 0) (most : ℕ) (state : ℕ → S)
     (is : (i : ℕ) (line : List ℕ) (next : S) →
     Good (state i) line next ↔ ((i < most) × ((x : X) × IsLine line x × (next ≡ state (i + 1))))) where

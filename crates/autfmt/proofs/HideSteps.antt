@@ -68,8 +68,8 @@ module _ {given : List ℕ} {old : Cutting} {H hidden : List (List ℕ)} (got : 
       (⊎_elim (λ less. inl (length H + 1, λ line long. inl (less, LineFault.too_long refl long)))
       (λ none. inr (none, refl)) unjudged) f (λ more. (known more).first))
 
-  -- Suppose that the lines that follow have a first error, and that the reader returns this error. Then this error is
-  -- the first error of the hide list.
+  -- Suppose that the reader returns the error `fault`, and that `fault` is the first error of the lines that follow the
+  -- lines that have been read. Then `fault` is the first error of the hide list.
   pub hide_refused : {found : ℕ} {over : Bool} {rest : Option (List ℕ)} {failures : ℕ} (fault : Fault) →
       length H ≡ found → found ≤ MOST_LINES → failures ≡ 0 → (over ≡ true → IsAtEnd rest) → IsHideFault fault →
       LeadsTo (given ++ got) so_far.lines over (λ lines. First hides_are_judged found lines fault) →

@@ -1,6 +1,6 @@
 -- The lemmas in this file are about the steps in which a system is read. The lemmas describe the state of the reader
--- after each step, and justify each error that the reader returns. The last lemmas are about the result of reading a
--- system, which is the system or an error.
+-- after each step, and justify each error that the reader returns. The last lemmas say that the system that is built
+-- from the stored transitions is the system that the input denotes.
 use Rattle.std.proofs.Common.{ℕ, List, ◌++◌, Option, Result, MatchResult, arith, ◌≡◌, ◌⊎◌, ⊎_elim, ◌<◌, ◌≤◌, true}
 use Rattle.std.proofs.Common.{[], ◌∷◌, length, Bool, None, Some, IfSome, Ok, Err, IfOk, IfErr, IsErrAnd, refl, ◌∙◌, ap}
 use Rattle.std.proofs.Common.{◌+◌, false, inl, inr, rules, append_assoc}
@@ -36,8 +36,9 @@ pub takes_more : {T E : Type 0} {Good : List ℕ → T → Type 0} {Bad : List �
     MatchResult result (Good (before ++ bytes)) (Bad (before ++ bytes)) → Takes old new Good Bad result
 takes_more between before bytes first next outcome = grind (arith, Consumes-trans)
 
--- Suppose that a call returns the error e, and that the property Q holds for e. Then `MatchResult` holds for the result
--- of the call and the property Q of its error.
+-- Suppose that a call returns the error e, and that the property Q holds for e. Then `MatchResult result P Q` holds for
+-- the result of the call, which states that a value in the result has the property P, and that an error has the
+-- property Q.
 pub returns_error : {T E : Type 0} {e : E} (result : Result T E) (P : T → Type 0) (Q : E → Type 0) →
     IsErrAnd result (λ error. error ≡ e) → Q e → MatchResult result P Q
 returns_error result P Q error holds = let exit = err_from_is_err_and result error in rw (exit.1, exit.2) holds
@@ -131,8 +132,8 @@ module _ {bounds : Bounds} {given : List ℕ} {old : Cutting} {p : Promise} {es 
     spelled = grind (arith, all_zipped_more, p.states, so_far.lines, line, so_far.spelled);
   }
 
-  -- Suppose that the lines that follow have a first error, and that the reader returns this error. Then this error is
-  -- the first error of the input.
+  -- Suppose that the reader returns the error `fault`, and that `fault` is the first error of the lines that follow the
+  -- lines that have been read. Then `fault` is the first error of the input.
   pub transition_refused : {found : ℕ} {over : Bool} {rest : Option (List ℕ)} {failures : ℕ} (fault : Fault) →
       found ≡ length es → found ≤ p.transitions → failures ≡ 0 → (over ≡ true → IsAtEnd rest) → IsTextFault fault →
       LeadsTo (given ++ got) before over

@@ -18,8 +18,8 @@ use Rattle.autfmt.specs.Texts.{lines_of, IsShort, GoodHeader, SpellsAmong}
 -- `IsRead x` states that the line has the contents x, and `fault_in x` is the error in x, or `None` if x has no error.
 -- There are three possible errors. First, the line has more than 8192 bytes (`LONGEST_LINE`). Second, the line is not
 -- too long, but has no contents. In this case, `fault` is the error `bad`. Third, the line is not too long and has the
--- contents x, and `fault` is the error in x. If a line is not allowed because too many lines come before it,
--- `BadLine` defines its error.
+-- contents x, and `fault` is the error in x. If a line is not allowed because too many lines come before it, its error
+-- is defined by `BadLine`, or by `BadHideLine` if the input is a hide list (the labels to hide).
 pub data LineFault {X : Type 0} (IsRead : X → Type 0) (fault_in : X → Option Fault) (k : ℕ) (bad : Fault)
     (line : List ℕ) (fault : Fault) : Type 0 where
   too_long : fault ≡ LineTooLong k → LONGEST_LINE < length line → LineFault IsRead fault_in k bad line fault
@@ -53,11 +53,12 @@ abbrev pub EdgeFault : ℕ → ℕ → List ℕ → Fault → Type 0
 EdgeFault n k line = LineFault (λ x. TransitionLine line x.0 x.1 x.2) (ends_fault n k) k (BadEdge k) line
 
 -- `FaultFrom Good Bad end_fault before lines fault` holds if `fault` is the first error of an input in the lines
--- `lines`, which follow the correct lines that `before` describes. `Good before line next` states that `line` is a
--- correct line after these lines, and that `next` describes them and `line`. `Bad before line f` states that f is the
--- error of such a line. `end_fault before` is the error of an input that ends after the lines that `before` describes,
--- or `None` if there is no error. If some of the lines have an error, `fault` is the error of the first such line. If
--- none of the lines has an error, `fault` is the error of an input that ends after these lines.
+-- `lines`, which follow the correct lines that `before` describes. `Good before line next` states that `line` is
+-- correct if it follows the lines that `before` describes, and that `next` describes these lines and `line`.
+-- `Bad before line f` states that f is the error of `line` if it follows the lines that `before` describes.
+-- `end_fault before` is the error of an input that ends after these lines, or `None` if there is no error. If some of
+-- the lines `lines` have an error, `fault` is the error of the first such line. If none of them has an error, `fault`
+-- is the error of an input that ends after the lines `lines`.
 abbrev pub FaultFrom : {S : Type 0} → (S → List ℕ → S → Type 0) → (S → List ℕ → Fault → Type 0) → (S → Option Fault) →
     S → List (List ℕ) → Fault → Type 0
 FaultFrom Good Bad end_fault before [] fault = end_fault before ≡ Some fault
@@ -72,7 +73,8 @@ LinesBefore = Option (ℕ × ℕ × ℕ)
 
 -- `GoodLine bounds before line next` holds if `line` is a correct header or a correct transition of an input, where
 -- `before` describes the lines before `line`, and `next` describes the lines up to `line`. The limits `bounds` restrict
--- the numbers that a header may declare.
+-- the numbers that a header may declare. A line that follows the last transition that the header declares is not
+-- correct.
 abbrev pub GoodLine : Bounds → LinesBefore → List ℕ → LinesBefore → Type 0
 GoodLine bounds None line next = (f m n : ℕ) × GoodHeader bounds line f m n × (next ≡ Some (m, n, 0))
 GoodLine bounds (Some (m, n, found)) line next =

@@ -25,12 +25,13 @@ abbrev pub HideFault : ℕ → List ℕ → Fault → Type 0
 HideFault k line = LineFault (HideLine line) (λ a. None) k (BadHide k) line
 
 -- `GoodHideLine found line next` holds if `line`, which follows `found` correct lines of a hide list (the labels to
--- hide), is allowed and correct, and `next` is `found + 1`.
+-- hide), is correct, if `found` is less than `MOST_LINES`, and if `next` is `found + 1`.
 abbrev pub GoodHideLine : ℕ → List ℕ → ℕ → Type 0
 GoodHideLine found line next = (found < MOST_LINES) × ((a : List ℕ) × Hides line a × (next ≡ found + 1))
 
 -- `BadHideLine found line fault` holds if `fault` is the error of `line`, which follows `found` correct lines of a hide
--- list (the labels to hide). A line that follows `MOST_LINES` other lines has the error `TooManyHidden`.
+-- list (the labels to hide). A line that follows `MOST_LINES` other lines has the error `TooManyHidden`. The error of
+-- any other line is defined by `HideFault`.
 abbrev pub BadHideLine : ℕ → List ℕ → Fault → Type 0
 BadHideLine found line fault =
     ((found < MOST_LINES) × HideFault (found + 1) line fault) ⊎ ((MOST_LINES ≤ found) × (fault ≡ TooManyHidden))

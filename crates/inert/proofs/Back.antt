@@ -88,7 +88,8 @@ module _ {u : Under} {signatures : List (List (ℕ × ℕ))} {w : Search} (walks
     -- A component is a strongly connected set of states on the stack. Each frame belongs to a state on the stack, and
     -- records which outgoing transitions of this state are still to be read. Suppose that all outgoing transitions of
     -- the state to which the last frame belongs were read, and that this state is not the first state of a component on
-    -- the stack. If the search then removes the last frame, the invariant of the search still holds (`GoesOn`).
+    -- the stack. If the search then removes the last frame, the invariant of the search still holds, and the number of
+    -- visits (reads of transitions that the meter counts) that are still to be made does not change (`GoesOn`).
     pub popped_on : (counts : Counts) → GoesOn u signatures signatures counts counts w (popped w)
     popped_on counts = stays_on SearchInvariant-pop refl (omega (arith, rest-cut u.visited w.frames some read))
 

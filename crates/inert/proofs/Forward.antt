@@ -224,8 +224,8 @@ module _ {u : Under} {signatures : List (List (ℕ × ℕ))} {w : Search} (walks
           search (rules, walks, sizes, opened, signed, roots, frames, connects, sound, accounted)
 
       -- Suppose that an inert step leads from the current state, if there is one, to the state t. If the search pushes
-      -- t, the invariant of the search still holds (`GoesOn`). The number of visits (reads of transitions that the
-      -- meter counts) that the search still has to make does not change.
+      -- t, the invariant of the search still holds, and the number of visits (reads of transitions that the meter
+      -- counts) that the search still has to make does not change (`GoesOn`).
       pub entered_on : (counts : Counts) → GoesOn u signatures signatures counts counts w Entered
       entered_on counts =
           let read = unread-set w.stages t (OnStack n) refl within unseen (remaining u) in

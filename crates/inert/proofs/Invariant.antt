@@ -308,8 +308,8 @@ kept_still grow u old new still s k was =
 
 -- Let `old` and `new` be the data of the search at two points. Suppose that the invariant of the search holds for
 -- `new`, and that no state has changed its status (unvisited, on the stack, or completed) since `old`. Suppose also
--- that the meter has counted exactly the visits that the search no longer has to make (`Spends`). Then the search has
--- gone on from `old` to `new` (`GoesOn`).
+-- that the meter has counted no round, and exactly the visits that the search no longer has to make (`Spends`). Then
+-- the search has gone on from `old` to `new` (`GoesOn`).
 pub stays_on : {u : Under} {signatures : List (List (ℕ × ℕ))} {first second : Counts} {old new : Search}
     → SearchInvariant u signatures new → new.stages ≡ old.stages → Spends u first second old new
     → GoesOn u signatures signatures first second old new

@@ -22,11 +22,12 @@ use Rattle.inert.proofs.Forward.{SearchInvariant-collect, collected_holds, Searc
 use Rattle.inert.proofs.Forward.{entered_on, entered_met, SearchInvariant-next}
 use Rattle.inert.proofs.{Invariant.list_signed, Resting.within, Back.popped, Back.closed}
 
--- A frame records which outgoing transitions of a state on the stack are still to be read. The search has the data
--- `old` at one point, and the data `new` at a later point. `Stays` holds if the search has read transitions of the
--- current state between the two points, and has pushed no state. The stack, the number of frames and the number of
--- unvisited states are then the same at both points. In `new`, the next transition of the last frame is at the place k,
--- which is an index in the list of all transitions.
+-- Each frame belongs to a state on the stack, and records which outgoing transitions of this state are still to be
+-- read. The search has the data `old` at one point, and the data `new` at a later point. `Stays` holds if the stack,
+-- the number of frames and the number of unvisited states are the same at both points, and if the last frame is the
+-- same except for its next transition. In `new`, this next transition is at the place k, which is an index in the list
+-- of all transitions. `Stays` holds if the search has only read transitions of the current state, and has pushed no
+-- state.
 pub record Stays (old new : Search) (k : ℕ) : Type 0 where
   pub size : length new.frames ≡ length old.frames
   pub stack : new.stack ≡ old.stack
@@ -34,11 +35,12 @@ pub record Stays (old new : Search) (k : ℕ) : Type 0 where
   pub here : top new.frames ≡ record (top old.frames) { next = k }
 
 -- The search has the data `old` before it reads a transition of the current state, and the data `new` afterwards. The
--- meter has the counts `first` before, and `second` afterwards. The next transition of the current state is at the
--- place k, which is an index in the list of all transitions. `Proceeds` holds if the search has gone on from `old` to
--- `new` (`GoesOn`), and if one more condition holds. If the flag `enters` is false, no state was pushed, and `Stays`
--- must hold. If the flag `enters` is true, the value of `steps` must have decreased. This value is an upper bound for
--- the number of states that the search still pushes plus the number of frames that it still pops.
+-- meter has the counts `first` before, and `second` afterwards. The flag `enters` is true if the search has pushed a
+-- state. A place is an index in the list of all transitions. `Proceeds` holds if all three of the following conditions
+-- hold. First, the search has gone on from `old` to `new` (`GoesOn`). Second, if no state was pushed, `Stays` holds:
+-- the transition of the current state that is to be read next is at the place k. Third, if a state was pushed, the
+-- value of `steps` has decreased. This value is an upper bound for the number of states that the search still pushes
+-- plus the number of frames that it still pops.
 pub record Proceeds (u : Under) (signatures : List (List (ℕ × ℕ))) (first second : Counts) (old new : Search) (k : ℕ)
     (enters : Bool) : Type 0 where
   pub on : GoesOn u signatures signatures first second old new
@@ -85,9 +87,9 @@ module _ (laws : Laws) {u : Under} (lts : IsLts u.l) {signatures : List (List (�
       let here = laws.here (system_of u.l) (slice_index u.blocks) (source_of e) in
       grind (arith, lts.in_range.each k (0, 0, 0) place_low, source, here, place_step u.l k place_low, other)
 
-  -- Let w be the data of the search before it processes the transition e, and let m be the data after this. `Taken`
-  -- lists the facts that then hold for m. The flag `enters` is true if the search has pushed a state while it processed
-  -- e.
+  -- Let w be the data of the search before it processes the transition e, and let m be the data after this. In m, the
+  -- transition e is not yet marked as read. `Taken` lists the facts that then hold for m. The flag `enters` is true if
+  -- the search has pushed a state while it processed e.
   record Taken (m : Search) (enters : Bool) : Type 0 where
     on : (counts : Counts) → GoesOn u signatures signatures counts counts w m
     done : IsHandled u signatures m (here w) e
@@ -96,9 +98,9 @@ module _ (laws : Laws) {u : Under} (lts : IsLts u.l) {signatures : List (List (�
     still : ¬ IsTrue enters → (m.frames ≡ w.frames) × (m.stack ≡ w.stack) × (unseen m.stages ≡ unseen w.stages)
     nearer : IsTrue enters → steps m < steps w
 
-  -- The frame at the index j is the last frame of w. The frame y results from it if the transition e is marked as read.
-  -- Reading e takes 0 or 1 visits (reads that the meter counts). The meter has the counts `first` before, and `second`
-  -- afterwards.
+  -- Let j be the index of the last frame of w, and let y be this frame after the transition e was marked as read.
+  -- Reading e takes 0 or 1 visits (reads that the meter counts). The meter has the counts `first` before this read, and
+  -- `second` afterwards. `Marked m` is the data m with the frame y at the index j, so that e is marked as read.
   module _ {first second : Counts} (visit : let n = price u.visited k in Costs first second 0 n n) {j : ℕ}
       (last : j ≡ length w.frames - 1) {y : Frame} (is : y ≡ record (frame_at w.frames j) { next = k + 1 }) where
     abbrev Marked : Search → Search
@@ -121,6 +123,8 @@ module _ (laws : Laws) {u : Under} (lts : IsLts u.l) {signatures : List (List (�
         let on = goes_on (took.on first) (stays_on walks refl spends) in
         grind (arith, on, took, length-set m.frames j y, get_or-set_same m.frames j y no_frame low, is, last)
 
+    -- Suppose that the search pushes no state when it processes the transition e, and that only its open components and
+    -- its items change. If it then marks e as read, the invariant of the search holds again (`Proceeds`).
     stayed : (roots : List Root) (items : List Item) {enters : Bool} → let m : Search =
         record w { roots = roots; items = items } in
         SearchInvariant u signatures m → IsHandled u signatures m (here w) e → ¬ IsTrue enters →
@@ -167,6 +171,8 @@ module _ (laws : Laws) {u : Under} (lts : IsLts u.l) {signatures : List (List (�
           (inert_done (with_item (Interned id) w)
           (inr (inl (id, stage, collected_holds walks (Interned id))))) stay)
 
+    -- If the search first marks the transition e as read, and then processes it, the invariant of the search still
+    -- holds (`Proceeds`).
     own : (step : Step) (m : Search) (enters : Bool) → IsStep u (slice_index u.blocks (source_of e)) e step
         → HandlesStep u.l.places step (Marked w) m enters → Proceeds u signatures first second w m (k + 1) enters
     own (Shows a b) m enters (other, is) (new, stay) =
@@ -180,8 +186,8 @@ module _ (laws : Laws) {u : Under} (lts : IsLts u.l) {signatures : List (List (�
         }) stay)
     own (Goes t) m enters (inert, is) takes = followed inert m enters (rw is at takes)
 
-    -- Suppose that the search first marks the transition e as read, and then processes it. Then the invariant of the
-    -- search still holds, whether or not e is inert (`Proceeds`).
+    -- The lemma `own` also holds if the block of the current state is given in another form. Whether e is inert or not,
+    -- the invariant of the search still holds after the search has marked e as read and processed it (`Proceeds`).
     pub taken : {block : ℕ} → block ≡ slice_index u.blocks (slice_index w.stack (here w)) → (step : Step)
         → IsStep u block e step → {m : Search} {enters : Bool} → HandlesStep u.l.places step (Marked w) m enters
         → Proceeds u signatures first second w m (k + 1) enters
@@ -200,6 +206,11 @@ collecting stages items = record (nothing stages) { items = items }
 abbrev pub framed : ℕ → ℕ → ℕ → List VisitState → List Item → Search
 framed s next end stages items = with_pushed s next end 0 (collecting stages items)
 
+-- These lemmas are about the first phase of a search, in which the first state s of the search is not on the stack. A
+-- frame records which outgoing transitions of a state are still to be read, and a place is an index in the list of all
+-- transitions. The lemmas assume the following. If s were on the stack, with a frame for its transitions at the places
+-- from k on, the search would have gone on from `old` (`GoesOn`), and the meter would have counted from `first` to
+-- `second`.
 module _ (laws : Laws) {u : Under} (lts : IsLts u.l) {signatures : List (List (ℕ × ℕ))} {first second : Counts}
     {old w : Search} {s end k : ℕ} (low : s < length old.stages) (same : w ≡ collecting old.stages w.items)
     (begun : GoesOn u signatures signatures first second old (framed s k end old.stages w.items)) where

@@ -161,8 +161,8 @@ SignsMore u signatures old new =
 -- same ID in `signatures`. Third, each state that is unvisited in `new` is also unvisited in `old`, and each state that
 -- is completed in `old` has the same status in `new` (`KeepsVisited`). Fourth, each state that is completed in `new`
 -- has the same status in `old`, or its status in `new` contains the ID of its branching signature (`SignsMore`). Fifth,
--- between the two points the meter has counted exactly the visits (reads of transitions that the meter counts) that the
--- search no longer has to make (`Spends`).
+-- between the two points the meter has counted no round, and exactly the visits that the search no longer has to make
+-- (`Spends`). A visit is a read of a transition that the meter counts.
 pub record GoesOn (u : Under) (before signatures : List (List (ℕ × ℕ))) (first second : Counts) (old new : Search) :
     Type 0 where
   pub walks : SearchInvariant u signatures new
@@ -189,9 +189,11 @@ pub record IsAtRest (u : Under) (signatures : List (List (ℕ × ℕ))) (w : Sea
   pub empty : w ≡ nothing w.stages
   pub walks : SearchInvariant u signatures w
 
--- The search has the data `old` at one point, and the data `new` at another point. `ReturnsToRest` holds if both of the
--- following conditions hold. First, the search has gone on from `old` to `new` (`GoesOn`). Second, no search is in
--- progress at `new`, which means that the stack and all other lists of `new` are empty.
+-- The search has the data `old` at one point, and the data `new` at another point. The meter has the counts `first` at
+-- the first point, and `second` at the second point. The list of interned signatures is `before` at the first point,
+-- and `signatures` at the second point. `ReturnsToRest` holds if both of the following conditions hold. First, the
+-- search has gone on from the first point to the second point (`GoesOn`). Second, no search is in progress at the
+-- second point, which means that the stack and all other lists of `new` are empty.
 pub record ReturnsToRest (u : Under) (before signatures : List (List (ℕ × ℕ))) (first second : Counts)
     (old new : Search) : Type 0 where
   pub empty : new ≡ nothing new.stages

@@ -71,7 +71,7 @@ pub(crate) struct DepthFirstSearch {
     pub pairs: Vec<(u32, u32)>,
 }
 
-/// `Drop` is implemented explicitly to make proofs smaller: see the cause "Drops" in `docs/changing.md`.
+/// `Drop` is implemented explicitly to make proofs faster: see the row "Drops" of the table in `docs/changing.md`.
 impl Drop for DepthFirstSearch {
     fn drop(self) {
         let DepthFirstSearch {

@@ -115,7 +115,8 @@ impl DepthFirstSearch {
     /// Each frame belongs to a state on the stack, and records which outgoing transitions of this state are still to be
     /// read. The function pops the last frame after all outgoing transitions of its state were read. If this state is
     /// the first state of a component, which is a strongly connected set of states on the stack, the component is
-    /// completed.
+    /// completed. The function reads no transition. So the clause `on` holds for any counts of a meter, with the same
+    /// counts before and after the call: the number of visits that the search still has to make does not change.
     fn go_back<M: Meter>(&mut self, lens: &Lens<M>, signatures: &mut Interner) -> Result<(), Memory>
         requires walks { SearchInvariant lens.now signatures.old self.old }
         requires some { 0 < length self.old.frames }

@@ -25,7 +25,7 @@ pub struct Signer {
     search: DepthFirstSearch,
 }
 
-/// `Drop` is implemented explicitly to make proofs smaller: see the cause "Drops" in `docs/changing.md`.
+/// `Drop` is implemented explicitly to make proofs faster: see the row "Drops" of the table in `docs/changing.md`.
 impl Drop for Signer {
     fn drop(self) {
         let Signer {

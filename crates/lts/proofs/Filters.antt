@@ -56,8 +56,8 @@ pub filter-whole : {X : Type 0} (p : X → Bool) (xs : List X) → All (λ x. p 
 filter-whole p [] h = refl
 filter-whole p (x ∷ xs) h = search (rules, cond-true, All-head, filter-whole p xs, All-tail)
 
--- Suppose that a is at most b, and that exactly the elements at the indices k with a <= k < b have the property p. Then
--- filtering the list by p results in the list of these elements.
+-- Suppose that a is at most b, that b is at most the length of a list, and that exactly the elements of the list at the
+-- indices k with a <= k < b have the property p. Then filtering the list by p results in the list of these elements.
 pub filter-slice : {X : Type 0} (p : X → Bool) (xs : List X) (a b : ℕ) → a ≤ b → b ≤ length xs →
     ((k : ℕ) (d : X) → k < length xs → (p (get_or xs k d) ≡ true) ↔ ((a ≤ k) × (k < b))) →
     filter p xs ≡ slice_range xs a b

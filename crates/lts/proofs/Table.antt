@@ -1,7 +1,7 @@
--- Lemmas about the label table, which is modelled as a list of labels. The lemmas state what a search for a label
--- returns, and which labels the table contains after a label was appended. The other lemmas are about the disjoint
--- union of two systems. The union is built by appending the triples (source, label ID, target) of both systems to one
--- list, with one label table for both systems.
+-- Lemmas about the label table and about the disjoint union of two systems. The label table is modelled as a list of
+-- labels. The first lemmas state what a search for a label returns, and which labels the table contains after a label
+-- was appended. The other lemmas are about the union, which is built by appending the triples (source, label ID,
+-- target) of both systems to one list, with one label table for both systems.
 use Rattle.std.proofs.Common.{rules, arith, ◌≡◌, ◌∙◌, ℕ, ◌<◌, false, List, [], ◌∷◌, ◌++◌, length, map, Some, Contains}
 use Rattle.std.proofs.Common.{sym, ap, position, bytes_eq, suc, ◌+◌, ◌≤◌, take, subst, refl, inl, inr, zero-add}
 use Rattle.std.proofs.Common.{All, append_assoc, length-append, map-id}
@@ -80,7 +80,8 @@ module _ {l : Grouped} {shift k : ℕ} {l0 old new : List (List ℕ)} {e0 es : L
 
   -- States are numbers. The triples of a union represent the transitions of the system l with the number `shift` added
   -- to the source and the target of each transition. Suppose that the triple e represents the transition at the index k
-  -- in the list of all transitions of l. Then, after e was appended, the first k + 1 transitions of l are appended.
+  -- in the list of all transitions of l. Suppose also that the meter counts one visit. Then `HasAppended` holds for the
+  -- first k + 1 transitions of l after e was appended.
   pub joins_next : (now : Counts) → IsLts l → k < length l.places
       → source_of e ≡ shift + source_of (place_at l.places k) →
       a ≡ text_of l.labels (label_of (place_at l.places k)) → target_of e ≡ shift + target_of (place_at l.places k) →

@@ -26,7 +26,7 @@ pub(crate) struct Rows {
     pairs: Vec<(u32, u32)>,
 }
 
-/// `Drop` is implemented explicitly to make proofs smaller: see the cause "Drops" in `docs/changing.md`.
+/// `Drop` is implemented explicitly to make proofs faster: see the row "Drops" of the table in `docs/changing.md`.
 impl Drop for Rows {
     fn drop(self) {
         let Rows { ends: _, pairs: _ } = self;

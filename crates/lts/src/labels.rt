@@ -30,7 +30,7 @@ pub struct Labels {
     texts: IndexMap<Vec<u8>, ()>,
 }
 
-/// `Drop` is implemented explicitly to make proofs smaller: see the cause "Drops" in `docs/changing.md`.
+/// `Drop` is implemented explicitly to make proofs faster: see the row "Drops" of the table in `docs/changing.md`.
 impl Drop for Labels {
     fn drop(self) {
         let Labels { alloc: _, texts: _ } = self;

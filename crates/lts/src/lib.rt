@@ -4,7 +4,8 @@
 //!
 //! If a call of this crate returns an error, the error is `Memory`, which means that an allocation failed.
 //!
-//! Most types implement `Drop` explicitly to make proofs smaller: see the cause "Drops" in `docs/changing.md`.
+//! Most types implement `Drop` explicitly to make proofs faster: see the row "Drops" of the table in
+//! `docs/changing.md`.
 #![tactic(auto)]
 
 mod ascending_rows;

@@ -44,7 +44,7 @@ pub struct Lts<M: Meter> {
     meter: PhantomData<M>,
 }
 
-/// `Drop` is implemented explicitly to make proofs smaller: see the cause "Drops" in `docs/changing.md`.
+/// `Drop` is implemented explicitly to make proofs faster: see the row "Drops" of the table in `docs/changing.md`.
 impl<M: Meter> Drop for Lts<M> {
     fn drop(self) {
         let Lts {

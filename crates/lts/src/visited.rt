@@ -32,7 +32,7 @@ pub struct Visited {
     words: Vec<u64>,
 }
 
-/// `Drop` is implemented explicitly to make proofs smaller: see the cause "Drops" in `docs/changing.md`.
+/// `Drop` is implemented explicitly to make proofs faster: see the row "Drops" of the table in `docs/changing.md`.
 impl Drop for Visited {
     fn drop(self) {
         let Visited {

@@ -68,7 +68,8 @@ module _ (places : List Triple) where
       × (sum_by row_length (take i xs) ≤ length places)
   rows_all xs i once long some = rw (take_all i xs long) (get_or-le-sum_by row_length xs 0 0 some, rows_few xs once)
 
--- These lemmas bound the number of the states that a search has found, and the number of their transitions.
+-- A set of lemmas for the prover. They bound the number of states that a search has found, and the number of
+-- transitions of these states.
 pub ruleset search_bounds = (rows_room, rows_all, found_few)
 
 -- `ReadsRow` is the invariant of the loop in which a search reads the transitions of one found state. This state is at

@@ -23,6 +23,8 @@ use Rattle.signatures.specs.{Unions.Unites, Lists.pair_cmp, Lists.list_at, Nodes
 use Rattle.signatures.specs.{Hashed.AreDifferent, declared.nodes.Halves.Halves, declared.nodes.TheConstants.MOST_WHOLE}
 use Rattle.signatures.proofs.Ascending.{pair_total, ascending_unique}
 
+-- Each pair (x, y) is represented by the number x * 2^32 + y (`pair_value`). If the second components of two pairs are
+-- less than 2^32, then one pair is less than the other if and only if its number is less.
 pub key_less : (x y : ℕ × ℕ) → x.1 < 2 ^ 32 → y.1 < 2 ^ 32 → (pair_cmp x y ≡ Less) ↔ (pair_value x < pair_value y)
 key_less x y small fits = search rules
 

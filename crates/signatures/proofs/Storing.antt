@@ -1,8 +1,8 @@
 -- A node stores one list: a short list as a range of pairs, and a long list as the IDs of the two halves of the list.
 -- Some lemmas state which list is stored in a node. Other lemmas show that all lists are still stored correctly
--- (`AreNodes`) after a list has been appended. The first lemmas are about the buffers that contain the ranges of pairs.
--- The last lemmas are about the search for a list by its tag, which is a hash of 32 bits: the code compares the list
--- with each stored list that has the same tag.
+-- (`AreNodes`) after a list has been appended. The relation `Grow` states that lists keep their IDs. The first lemmas
+-- are about the buffers that contain the ranges of pairs. The last lemmas are about the search for a list by its tag,
+-- which is a hash of 32 bits: the code compares the list with each stored list that has the same tag.
 use Rattle.std.proofs.Common.{rules, ◌≡◌, ℕ, ◌+◌, ◌≤◌, List, [], ◌∷◌, ◌++◌, length, refl, arith, All, ◌-◌, drop, map}
 use Rattle.std.proofs.Common.{slice_range, length-drop, length-take, drop_at, take_all, ◌∙◌, zero, suc, ◌<◌, take, ap}
 use Rattle.std.{specs.List.Sorted.IsStrictlySortedBy, proofs.Common.length-append, proofs.Common.append-nil}

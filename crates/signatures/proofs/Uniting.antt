@@ -1,13 +1,13 @@
--- The split point of a list is the number at which the list is divided into two halves. To compare a pair (x, y) with
--- the split point, the pair is represented by the number x * 2^32 + y (`pair_value`). The first half contains the pairs
--- that are less than the split point, and the second half contains all other pairs. To compute the union of two lists,
--- each of the two lists is divided at the split point of the union into a lower and an upper part. The union of the two
--- lower parts is the first half of the result, and the union of the two upper parts is the second half. If two lists
--- have no pair in common, the fingerprint (a hash of 64 bits) of their union is the sum of their fingerprints, modulo
--- 2^64. The first lemmas are about unions that are computed list by list, and show that a list which is the union of
--- two stored lists is still their union when more lists are stored. The last lemmas are about the union cache, which is
--- a hash table of unions that were computed before. Each entry of the cache contains the IDs of two lists and the ID of
--- their union.
+-- The first lemmas are about unions of lists that are computed list by list. They also show that a list which is the
+-- union of two stored lists is still their union when more lists are stored. The next lemmas compute the union of two
+-- lists by halves. The split point of a list is the number at which the list is divided into two halves. To compare a
+-- pair (x, y) with the split point, the pair is represented by the number x * 2^32 + y (`pair_value`). The first half
+-- contains the pairs that are less than the split point, and the second half contains all other pairs. To compute the
+-- union of two lists, each of the two lists is divided at the split point of the union into a lower and an upper part.
+-- The union of the two lower parts is the first half of the result, and the union of the two upper parts is the second
+-- half. If two lists have no pair in common, the fingerprint (a hash of 64 bits) of their union is the sum of their
+-- fingerprints, modulo 2^64. The last lemmas are about the union cache, which is a hash table of unions that were
+-- computed before. Each entry of the cache contains the IDs of two lists and the ID of their union.
 use Rattle.std.specs.{Set.is_member, Ordering.eq_by_cmp, List.Sorted.IsStrictlySortedBy}
 use Rattle.std.proofs.Common.{filter, Bool, ◌≡◌, ◌⊎◌, ◌↔◌, ℕ, ◌+◌, ◌-◌, ◌<◌, min, max, List, [], ◌++◌, length, sym}
 use Rattle.std.proofs.Common.{subst, refl, inr, arith, rules, length-append, append-nil, ◌∙◌, ◌%◌, ◌^◌, Contains, ap}

@@ -27,7 +27,7 @@ pub struct Interner {
     table: Table,
 }
 
-/// `Drop` is implemented explicitly to make proofs smaller: see the cause "Drops" in `docs/changing.md`.
+/// `Drop` is implemented explicitly to make proofs faster: see the row "Drops" of the table in `docs/changing.md`.
 impl Drop for Interner {
     fn drop(self) {
         let Interner { bases: _, table: _ } = self;

@@ -31,7 +31,7 @@ pub(crate) struct Trie {
     union_cache: UnionCache,
 }
 
-/// `Drop` is implemented explicitly to make proofs smaller: see the cause "Drops" in `docs/changing.md`.
+/// `Drop` is implemented explicitly to make proofs faster: see the row "Drops" of the table in `docs/changing.md`.
 impl Drop for Trie {
     fn drop(self) {
         let Trie {

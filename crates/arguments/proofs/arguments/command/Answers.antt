@@ -9,9 +9,9 @@ use Rattle.arguments.specs.Arguments.{IsWholeIn, program_app}
 use Rattle.arguments.specs.declared.arguments.WordFault.TheVariants as fault
 use Rattle.arguments.proofs.arguments.command.Goals as goal
 
--- Suppose that `clap` accepts the arguments, and that r may be an error in making a job (a subcommand with its options)
--- from the values that `clap` finds. Suppose also that, if `clap` has found all mandatory arguments, such an error
--- reports an unknown relation or a failed allocation. Then the contract of `command` allows this error.
+-- Suppose that `clap` accepts the arguments, and that r is the result of making a job (a subcommand with its options)
+-- from the values that `clap` finds. Suppose also that, if `clap` has found all mandatory arguments and r is an error,
+-- then r reports an unknown relation or a failed allocation. Then the contract of `command` allows the result r.
 taken_error : (words : List Text) (r : Result Job WordFault) → AreTaken words →
     IfErr r (IsFaultIn (subcommand_of program_app words)) →
     (IsWholeIn (subcommand_of program_app words) → IfErr r IsFaultOfAJob) → IfErr r (IsFaultOf words)
@@ -42,8 +42,8 @@ found_fault words e (fault.Usage text) among is =
     inr (some_kind (λ kind. ¬ IsHelp kind) (kind_of e) (fault_of program_app words) among is)
 found_fault words e fault.Memory among is = tt
 
--- The contracts of `clap` hold only for simple descriptions of a command line (`is_simple`). The prover computes that
--- the description `program_app` is simple.
+-- The contracts of `clap` hold only for simple descriptions of a command line (`is_simple`, `is_simple_and_free`). The
+-- prover computes that the description `program_app` is simple in both senses.
 pub returns-in-Ok : goal.returns-in-Ok
 returns-in-Ok c =
     let words_are : c.as_slice.result.now ≡ c.args.words.items = search rules in

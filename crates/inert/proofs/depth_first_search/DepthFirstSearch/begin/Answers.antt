@@ -9,8 +9,9 @@ use Rattle.inert.proofs.depth_first_search.DepthFirstSearch.begin.Goals.{After-s
 use Rattle.inert.proofs.depth_first_search.DepthFirstSearch.begin.Given.{Over}
 use Rattle.inert.proofs.depth_first_search.DepthFirstSearch.begin.Goals as goal
 
--- Suppose that no search is in progress, and that the unvisited state s is then pushed with a frame for all of its
--- outgoing transitions. Then the search has gone on (`GoesOn`).
+-- A frame records which outgoing transitions of a state are still to be read. Suppose that no search is in progress,
+-- and that the unvisited state s is then pushed with a frame for all of its outgoing transitions. Then the invariant of
+-- the search still holds, and the number of visits that the search still has to make has not changed (`GoesOn`).
 pub loop-k-init : goal.loop-k-init
 loop-k-init g c = let rests = c.requires.rests in let w = c.args.self.now in
     let on = entered_on (subst (SearchInvariant c.args.lens.now c.args.signatures.now) rests.empty rests.walks)
